@@ -1,0 +1,19 @@
+-- A decision, by its test.
+-- Assumes nothing.
+use mathlib.Core.Path.{_≡_, sym, _∙_}
+use mathlib.Core.Bool.{Bool, true, false, cond, true≢false, false≢true}
+
+pub yes : {A : Type 0} (f : Bool) (r x y : A) → f ≡ true → r ≡ x → r ≡ cond f x y
+yes true r x y f e = e
+yes false r x y f e = absurd (false≢true f)
+
+pub no : {A : Type 0} (f : Bool) (r x y : A) → f ≡ false → r ≡ y → r ≡ cond f x y
+no true r x y f e = absurd (true≢false f)
+no false r x y f e = e
+
+-- the same, where the code holds the test's outcome
+pub yes-by : {A : Type 0} (f g : Bool) (r x y : A) → g ≡ f → g ≡ true → r ≡ x → r ≡ cond f x y
+yes-by f g r x y p q e = yes f r x y (sym p ∙ q) e
+
+pub no-by : {A : Type 0} (f g : Bool) (r x y : A) → g ≡ f → g ≡ false → r ≡ y → r ≡ cond f x y
+no-by f g r x y p q e = no f r x y (sym p ∙ q) e

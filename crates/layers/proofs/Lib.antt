@@ -1,0 +1,9 @@
+-- What the proofs of several functions use.
+pub mod Decide
+pub mod Words
+pub mod Table
+pub mod Limits
+pub mod Checks
+pub mod Dereferenced
+pub mod Cycle
+pub mod Refusals

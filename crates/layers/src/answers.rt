@@ -1,0 +1,19 @@
+// What the checks of a type's words say: how many layers they are, or a refusal.
+pub enum Checked {
+    Good(u64),
+    Refused { number: u64, place: u64 },
+}
+
+// The answer to a question of yes or no.
+pub enum Verdict {
+    Yes,
+    No,
+    Refused { number: u64, place: u64 },
+}
+
+// The word at which a part of a type starts.
+pub enum Start {
+    At(u64),
+    Nothing,
+    Refused { number: u64, place: u64 },
+}

@@ -1,0 +1,220 @@
+use crate::answers::Checked;
+use crate::kinds::Kind;
+ghost use mathlib.Core.Path.{_≡_};
+ghost use mathlib.Core.Bool.{cond, not, _&&_};
+ghost use Prim.Native.Nat.{_<_};
+ghost use lib.Dec.{eqb};
+ghost use Rattle.layers.specs.Layers.{layer, holdsInner};
+ghost use Rattle.layers.specs.Answer.{ofChecked};
+ghost use Rattle.layers.specs.Check.{checkOf, goodLayer};
+ghost use Rattle.layers.specs.Limits.{limitsOf};
+
+// The limits of a kind: its largest name, its largest number, and whether a layer follows.
+struct Limits {
+    name: u64,
+    number: u64,
+    holds: bool,
+}
+
+const LIMITS: [Limits; 25] = [
+    Limits {
+        name: 0,
+        number: 0,
+        holds: false,
+    },
+    Limits {
+        name: 0,
+        number: 0,
+        holds: false,
+    },
+    Limits {
+        name: 0,
+        number: 0,
+        holds: false,
+    },
+    Limits {
+        name: 0,
+        number: 0,
+        holds: false,
+    },
+    Limits {
+        name: 0,
+        number: 0,
+        holds: false,
+    },
+    Limits {
+        name: 0,
+        number: 0,
+        holds: false,
+    },
+    Limits {
+        name: 0,
+        number: 0,
+        holds: false,
+    },
+    Limits {
+        name: 0,
+        number: 0,
+        holds: false,
+    },
+    Limits {
+        name: 0,
+        number: 0,
+        holds: false,
+    },
+    Limits {
+        name: 0,
+        number: 0,
+        holds: false,
+    },
+    Limits {
+        name: 0,
+        number: 0,
+        holds: false,
+    },
+    Limits {
+        name: 0,
+        number: 0,
+        holds: false,
+    },
+    Limits {
+        name: 0,
+        number: 0,
+        holds: false,
+    },
+    Limits {
+        name: 0,
+        number: 0,
+        holds: false,
+    },
+    Limits {
+        name: 0,
+        number: 18446744073709551615,
+        holds: true,
+    },
+    Limits {
+        name: 4294967295,
+        number: 0,
+        holds: true,
+    },
+    Limits {
+        name: 0,
+        number: 0,
+        holds: true,
+    },
+    Limits {
+        name: 0,
+        number: 0,
+        holds: true,
+    },
+    Limits {
+        name: 0,
+        number: 0,
+        holds: true,
+    },
+    Limits {
+        name: 0,
+        number: 0,
+        holds: true,
+    },
+    Limits {
+        name: 4294967295,
+        number: 0,
+        holds: false,
+    },
+    Limits {
+        name: 4294967295,
+        number: 18446744073709551615,
+        holds: false,
+    },
+    Limits {
+        name: 4294967295,
+        number: 1,
+        holds: false,
+    },
+    Limits {
+        name: 0,
+        number: 0,
+        holds: true,
+    },
+    Limits {
+        name: 0,
+        number: 0,
+        holds: true,
+    },
+];
+
+// The place of no layer: a type has at most 16, from 0.
+const NOWHERE: u64 = 16;
+
+fn limits_of(k: u64) -> Limits
+    requires { ⌜ k < 25 ⌝ }
+    ensures { λ r. ⌜ r ≡ limitsOf k ⌝ }
+{
+    LIMITS[k as usize]
+}
+
+fn good_layer(k: u64, n: u64, m: u64) -> bool
+    ensures { λ r. ⌜ r ≡ goodLayer (layer k n m) ⌝ }
+{
+    if k > 24 {
+        return false;
+    }
+    let most = limits_of(k);
+    (n <= most.name)
+        & (m <= most.number)
+        & ((k != Kind::UNRESOLVED_STRUCT_OR_WORD) | (m != 0) | (n == 0))
+}
+
+// Whether a layer of this kind is a leaf early, or the last and no leaf.
+fn is_misplaced(k: u64, last: bool) -> bool
+    requires { ⌜ k < 25 ⌝ }
+    ensures { λ r. ⌜ r ≡ cond (holdsInner k) last (not last) ⌝ }
+{
+    let most = limits_of(k);
+    if most.holds { last } else { !last }
+}
+
+// The first misplaced layer: the one that was found before, or this one where it is misplaced.
+fn earliest(found: u64, wrong: bool, place: u64) -> u64
+    ensures { λ r. ⌜ r ≡ cond (eqb found 16 && wrong) place found ⌝ }
+{
+    if (found == NOWHERE) & wrong {
+        place
+    } else {
+        found
+    }
+}
+
+// The checks 1 to 3. One pass: a bad layer ends it at once, the first misplaced layer is remembered.
+pub fn check_type(ws: &[u64]) -> Checked
+    ensures { λ r. ⌜ ofChecked r ≡ checkOf (now (ws .entry)) ⌝ }
+{
+    let n = ws.len();
+    if (n == 0) | (n > 48) | (n % 3 != 0) {
+        return Checked::Refused {
+            number: 1,
+            place: 0,
+        };
+    }
+    let mut at = 0;
+    let mut place: u64 = 0;
+    let mut misplaced = NOWHERE;
+    while at < n {
+        let k = ws[at];
+        if !good_layer(k, ws[at + 1], ws[at + 2]) {
+            return Checked::Refused { number: 2, place };
+        }
+        at += 3;
+        misplaced = earliest(misplaced, is_misplaced(k, at == n), place);
+        place += 1;
+    }
+    if misplaced == NOWHERE {
+        Checked::Good(place)
+    } else {
+        Checked::Refused {
+            number: 3,
+            place: misplaced,
+        }
+    }
+}
