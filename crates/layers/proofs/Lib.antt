@@ -7,3 +7,5 @@ pub mod Checks
 pub mod Dereferenced
 pub mod Cycle
 pub mod Refusals
+pub mod Apart
+pub mod Single
