@@ -1,3 +1,6 @@
+ghost use mathlib.Core.Path.{_≡_};
+ghost use Rattle.layers.specs.Answer.{ofVerdict, truth};
+
 // What the checks of a type's words say: how many layers they are, or a refusal.
 pub enum Checked {
     Good(u64),
@@ -9,6 +12,14 @@ pub enum Verdict {
     Yes,
     No,
     Refused { number: u64, place: u64 },
+}
+
+impl Verdict {
+    pub fn of(yes: bool) -> Verdict
+        ensures { λ r. ⌜ ofVerdict r ≡ truth yes ⌝ }
+    {
+        if yes { Verdict::Yes } else { Verdict::No }
+    }
 }
 
 // The word at which a part of a type starts.
