@@ -1,0 +1,5 @@
+-- What the proofs of several functions use.
+pub mod KnownSizes
+pub mod Pointers
+pub mod Extremes
+pub mod Measured

@@ -1,0 +1,24 @@
+// A size in bytes, or that there is none.
+pub enum Size {
+    Bytes(u64),
+    Nothing,
+    Refused { number: u64, place: u64 },
+}
+
+// How many there are.
+pub enum Count {
+    Of(u64),
+    Refused { number: u64, place: u64 },
+}
+
+// A number of 128 bits.
+pub struct Halves {
+    pub low: u64,
+    pub high: u64,
+}
+
+// The lowest or the highest value of a type.
+pub enum Bound {
+    Value { low: u64, high: u64 },
+    Refused { number: u64, place: u64 },
+}

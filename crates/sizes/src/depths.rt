@@ -1,0 +1,32 @@
+use crate::answers::Count;
+use layers::Checked;
+use layers::Kind;
+use layers::check_type;
+ghost use mathlib.Core.Path.{_≡_};
+ghost use Rattle.layers.specs.Layers.{layers};
+ghost use Rattle.sizes.specs.Answer.{ofCount};
+ghost use Rattle.sizes.specs.Depth.{pointerDepth, pointerDepthAnswer};
+
+// The pointer depth; of no layer 0.
+pub fn depth(a: &[u64]) -> u64
+    ensures { λ r. ⌜ r ≡ pointerDepth (layers (now (a .entry))) ⌝ }
+{
+    if a.len() < 3 {
+        return 0;
+    }
+    let k = a[0];
+    if k == Kind::POINTER {
+        return depth(&a[3..]) + 1;
+    }
+    if k == Kind::SLICE_POINTER { 1 } else { 0 }
+}
+
+// The pointer depth, for any words.
+pub fn pointer_depth(a: &[u64]) -> Count
+    ensures { λ r. ⌜ ofCount r ≡ pointerDepthAnswer (now (a .entry)) ⌝ }
+{
+    match check_type(a) {
+        Checked::Refused { number, place } => Count::Refused { number, place },
+        Checked::Good(_) => Count::Of(depth(a)),
+    }
+}
