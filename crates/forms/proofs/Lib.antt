@@ -1,3 +1,4 @@
 -- What the proofs of several functions use.
 pub mod Fits
 pub mod Told
+pub mod Single

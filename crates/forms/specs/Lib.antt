@@ -1,2 +1,3 @@
 pub mod Formed
 pub mod Properties
+pub mod Roles
