@@ -2,7 +2,7 @@
 pub mod Decide
 pub mod Words
 pub mod Table
-pub mod Limits
+pub mod Within
 pub mod Checks
 pub mod Dereferenced
 pub mod Cycle

@@ -4,7 +4,7 @@ use Prim.Native.Nat.{ℕ, _-_, _^_}
 use lib.Dec.{eqb}
 use Rattle.layers.specs.Kind as kind
 use Rattle.layers.specs.Layers.{holdsInner}
-use Rattle.layers.specs.declared.check.Limits.{Limits}
+use Rattle.layers.specs.declared.limits.Limits.{Limits}
 
 abbrev pub mostName : ℕ → ℕ
 mostName k =

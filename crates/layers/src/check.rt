@@ -1,5 +1,6 @@
 use crate::answers::Checked;
 use crate::kinds::Kind;
+use crate::limits::limits_of;
 ghost use mathlib.Core.Path.{_≡_};
 ghost use mathlib.Core.Bool.{cond, not, _&&_};
 ghost use Prim.Native.Nat.{_<_};
@@ -7,152 +8,9 @@ ghost use lib.Dec.{eqb};
 ghost use Rattle.layers.specs.Layers.{layer, holdsInner};
 ghost use Rattle.layers.specs.Answer.{ofChecked};
 ghost use Rattle.layers.specs.Check.{checkOf, goodLayer};
-ghost use Rattle.layers.specs.Limits.{limitsOf};
-
-// The limits of a kind: its largest name, its largest number, and whether a layer follows.
-struct Limits {
-    name: u64,
-    number: u64,
-    holds: bool,
-}
-
-const LIMITS: [Limits; 25] = [
-    Limits {
-        name: 0,
-        number: 0,
-        holds: false,
-    },
-    Limits {
-        name: 0,
-        number: 0,
-        holds: false,
-    },
-    Limits {
-        name: 0,
-        number: 0,
-        holds: false,
-    },
-    Limits {
-        name: 0,
-        number: 0,
-        holds: false,
-    },
-    Limits {
-        name: 0,
-        number: 0,
-        holds: false,
-    },
-    Limits {
-        name: 0,
-        number: 0,
-        holds: false,
-    },
-    Limits {
-        name: 0,
-        number: 0,
-        holds: false,
-    },
-    Limits {
-        name: 0,
-        number: 0,
-        holds: false,
-    },
-    Limits {
-        name: 0,
-        number: 0,
-        holds: false,
-    },
-    Limits {
-        name: 0,
-        number: 0,
-        holds: false,
-    },
-    Limits {
-        name: 0,
-        number: 0,
-        holds: false,
-    },
-    Limits {
-        name: 0,
-        number: 0,
-        holds: false,
-    },
-    Limits {
-        name: 0,
-        number: 0,
-        holds: false,
-    },
-    Limits {
-        name: 0,
-        number: 0,
-        holds: false,
-    },
-    Limits {
-        name: 0,
-        number: 18446744073709551615,
-        holds: true,
-    },
-    Limits {
-        name: 4294967295,
-        number: 0,
-        holds: true,
-    },
-    Limits {
-        name: 0,
-        number: 0,
-        holds: true,
-    },
-    Limits {
-        name: 0,
-        number: 0,
-        holds: true,
-    },
-    Limits {
-        name: 0,
-        number: 0,
-        holds: true,
-    },
-    Limits {
-        name: 0,
-        number: 0,
-        holds: true,
-    },
-    Limits {
-        name: 4294967295,
-        number: 0,
-        holds: false,
-    },
-    Limits {
-        name: 4294967295,
-        number: 18446744073709551615,
-        holds: false,
-    },
-    Limits {
-        name: 4294967295,
-        number: 1,
-        holds: false,
-    },
-    Limits {
-        name: 0,
-        number: 0,
-        holds: true,
-    },
-    Limits {
-        name: 0,
-        number: 0,
-        holds: true,
-    },
-];
 
 // The place of no layer: a type has at most 16, from 0.
 const NOWHERE: u64 = 16;
-
-fn limits_of(k: u64) -> Limits
-    requires { ⌜ k < 25 ⌝ }
-    ensures { λ r. ⌜ r ≡ limitsOf k ⌝ }
-{
-    LIMITS[k as usize]
-}
 
 fn good_layer(k: u64, n: u64, m: u64) -> bool
     ensures { λ r. ⌜ r ≡ goodLayer (layer k n m) ⌝ }

@@ -2,6 +2,7 @@
 mod answers;
 mod check;
 mod kinds;
+mod limits;
 mod parts;
 
 pub use answers::Checked;

@@ -4,7 +4,7 @@ use lib.ListN.{length}
 use borrow.Author.Needs.{needs}
 use borrow.Author.Tests.{not-false}
 use Rattle.layers.proofs.Checks.{Passed, start, turn, miscounted, bad, fine, leaf}
-use Rattle.layers.proofs.Limits.{known}
+use Rattle.layers.proofs.Within.{known}
 use Rattle.layers.proofs.check.check_type.Statement.{statement}
 use Rattle.layers.proofs.check.check_type.Tie as tie
 

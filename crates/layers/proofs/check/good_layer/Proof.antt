@@ -1,5 +1,5 @@
 use borrow.Author.Needs.{needs}
-use Rattle.layers.proofs.Limits.{no-kind, within}
+use Rattle.layers.proofs.Within.{no-kind, within}
 use Rattle.layers.proofs.check.good_layer.Statement.{statement}
 use Rattle.layers.proofs.check.good_layer.Tie as tie
 

@@ -12,7 +12,7 @@ use Rattle.layers.specs.Kind as kind
 use Rattle.layers.specs.Layers.{Layer, layer, holdsInner}
 use Rattle.layers.specs.Check.{goodLayer, goodName, goodNumber}
 use Rattle.layers.specs.Limits.{limitsOf, mostName, mostNumber}
-use Rattle.layers.specs.declared.check.Limits.{Limits}
+use Rattle.layers.specs.declared.limits.Limits.{Limits}
 use Rattle.layers.proofs.Table.{every, at}
 
 abbrev same : Bool → Bool → Bool
