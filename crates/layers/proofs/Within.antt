@@ -1,91 +1,89 @@
--- The table of limits, and what a layer within them is.
+-- The table of kinds, and what a good layer is by it.
 -- Assumes nothing.
-use mathlib.Core.Path.{_≡_, refl, sym, _∙_}
-use mathlib.Core.Bool.{Bool, true, false, cond, not, _&&_, _||_, and-true, and-false, or-false, false≢true}
+use mathlib.Core.Path.{_≡_, refl, sym, _∙_, ap}
+use mathlib.Core.Bool.{Bool, true, false, cond, not, _&&_, _||_, and-true, or-false, false≢true}
 use mathlib.Core.List.{List}
-use Prim.Native.Nat.{ℕ, zero, suc, _-_, _^_, _<_, _≤_}
+use Prim.Native.Nat.{ℕ, zero, suc, _+_, _*_, _-_, _/_, _%_, _^_, _<_, _≤_}
 use native.Mathlib.Omega.{arith}
 use lib.Dec.{T, eqb, leb, ltb, eqb→eq}
-use borrow.Author.Tests.{le-ltb, lt-ltb, le-leb, lt-leb, ne-eqb, eqb-true, ltb-true, not-false}
 use lib.ListN.{length, getD}
+use borrow.Author.Tests.{le-ltb, lt-ltb, le-leb, lt-leb, ne-eqb, eqb-true, ltb-true, not-false}
 use Rattle.layers.specs.Kind as kind
 use Rattle.layers.specs.Layers.{Layer, layer, holdsInner}
 use Rattle.layers.specs.Check.{goodLayer, goodName, goodNumber}
-use Rattle.layers.specs.Limits.{limitsOf, mostName, mostNumber}
-use Rattle.layers.specs.declared.limits.Limits.{Limits}
+use Rattle.layers.specs.Allows.{allowedOf, mayHaveName, mayHaveNumber}
+use Rattle.layers.specs.declared.allows.Allows.{Allows}
 use Rattle.layers.proofs.Table.{every, at}
 
-abbrev same : Bool → Bool → Bool
-same true b = b
-same false b = not b
+-- a kind's entry: 1 for a name, 2 for a number, 4 for a layer inside
+abbrev bit : Bool → ℕ
+bit true = 1
+bit false = 0
 
--- an entry of the table is what the rule says of its kind
-abbrev pub right : ℕ → Limits → Bool
-right k x = eqb (x .name) (mostName k) && eqb (x .number) (mostNumber k) && same (x .holds) (holdsInner k)
+abbrev code : Bool → Bool → Bool → ℕ
+code a b c = bit a + 2 * bit b + 4 * bit c
 
-three : (a b c : Bool) → T (a && b && c) → T a × (T b × T c)
-three true true true t = (tt, (tt, tt))
-three true true false t = absurd t
-three true false c t = absurd t
-three false b c t = absurd t
+abbrev pub right : ℕ → ℕ → Bool
+right k x = eqb x (code (mayHaveName k) (mayHaveNumber k) (holdsInner k))
 
-same-eq : (a b : Bool) → T (same a b) → a ≡ b
-same-eq true true t = refl
-same-eq true false t = absurd t
-same-eq false true t = absurd t
-same-eq false false t = refl
+abbrev decoded : ℕ → Allows
+decoded x = record { name = eqb (x % 2) 1; number = eqb (x / 2 % 2) 1; holds = eqb (x / 4) 1 }
 
-made : (x : Limits) (a b : ℕ) (c : Bool) → x .name ≡ a → x .number ≡ b → x .holds ≡ c → x ≡ record { name = a; number = b; holds = c }
-made x a b c p q r = rw (← p, ← q, ← r)
+read : (a b c : Bool) → decoded (code a b c) ≡ record { name = a; number = b; holds = c }
+read true true true = refl
+read true true false = refl
+read true false true = refl
+read true false false = refl
+read false true true = refl
+read false true false = refl
+read false false true = refl
+read false false false = refl
 
-is-right : (k : ℕ) (x : Limits) → T (right k x) → x ≡ limitsOf k
-unfolding limitsOf
-is-right k x t =
-    let p = three (eqb (x .name) (mostName k)) (eqb (x .number) (mostNumber k)) (same (x .holds) (holdsInner k)) t in
-    made x (mostName k) (mostNumber k) (holdsInner k)
-    (eqb→eq (x .name) (mostName k) (p .0))
-    (eqb→eq (x .number) (mostNumber k) (p .1 .0))
-    (same-eq (x .holds) (holdsInner k) (p .1 .1))
-
-pub table-right : (d : Limits) (xs : List Limits) → T (every right 0 xs) → (k : ℕ) → k < length xs → getD xs k d ≡ limitsOf k
-table-right d xs t k h = is-right k (getD xs k d) (at right d xs t k h)
+pub table-right : (xs : List ℕ) → T (every right 0 xs) → (k : ℕ) → k < length xs → decoded (getD xs k 0) ≡ allowedOf k
+unfolding allowedOf
+table-right xs t k h =
+    rw (eqb→eq (getD xs k 0) (code (mayHaveName k) (mayHaveNumber k) (holdsInner k)) (at right 0 xs t k h))
+    (read (mayHaveName k) (mayHaveNumber k) (holdsInner k))
 
 pub no-kind : (k n m : ℕ) → 24 < k → false ≡ goodLayer (layer k n m)
 unfolding goodLayer
 no-kind k n m h = rw (le-ltb k 25 (omega arith))
 
-leb-zero : (n : ℕ) → leb n 0 ≡ eqb n 0
-leb-zero zero = refl
-leb-zero (suc n) = lt-leb (suc n) 0 (omega arith) ∙ sym (ne-eqb (suc n) 0 (λ e. omega arith))
+-- a name is within its limit, which every name 0 is
+named : (b u z : Bool) → (z ≡ true → u ≡ true) → (b && u || z) ≡ cond b u z
+named true true z f = refl
+named true false true f = sym (f refl)
+named true false false f = refl
+named false u z f = refl
 
-limit : (b t : Bool) (n x : ℕ) → leb n x ≡ t → leb n (cond b x 0) ≡ cond b t (eqb n 0)
-limit true t n x e = e
-limit false t n x e = leb-zero n
+small : (n x : ℕ) → eqb n 0 ≡ true → leb n x ≡ true
+small n x e = le-leb n x (omega (arith, eqb-true n 0 e))
 
--- an unresolved type has a name where its number is not 0
-unnamed : (n : ℕ) (z o u v : Bool) → z ≡ eqb n 0 → u ≡ leb n (2 ^ 32 - 1) → (u && v && (not o || z)) ≡ (cond (not o) u z && v)
-unnamed n z false true v e f = and-true v
-unnamed n z false false v e f = refl
-unnamed n false true true v e f = and-false v
-unnamed n false true false v e f = refl
-unnamed n true true true v e f = and-true v
-unnamed n true true false v e f = absurd (false≢true (f ∙ (rw (eqb-true n 0 (sym e)) refl)))
+at-most-one : (m : ℕ) → (eqb m 1 || eqb m 0) ≡ leb m 1
+at-most-one zero = refl
+at-most-one (suc zero) = refl
+at-most-one (suc (suc m)) =
+    rw (ne-eqb (suc (suc m)) 1 (λ e. omega arith), ne-eqb (suc (suc m)) 0 (λ e. omega arith), lt-leb (suc (suc m)) 1 (omega arith))
 
-module _ (k n m : ℕ) (f : m < 2 ^ 64) where
-  resolved : (b d : Bool) →
-      (leb n (cond b (2 ^ 32 - 1) 0) && leb m (cond d (2 ^ 64 - 1) 0) && true) ≡ (cond b (leb n (2 ^ 32 - 1)) (eqb n 0) && cond d true (eqb m 0))
-  resolved b d =
-      rw (and-true, limit b (leb n (2 ^ 32 - 1)) n (2 ^ 32 - 1) refl, limit d true m (2 ^ 64 - 1) (le-leb m (2 ^ 64 - 1) (omega arith)))
+either : (y z : Bool) → (y || false || z) ≡ cond y true z
+either true z = refl
+either false z = refl
 
+module _ (k n m : ℕ) where
   by-kind : (u : Bool) → eqb k 22 ≡ u →
-      (leb n (mostName k) && leb m (mostNumber k) && (not (eqb k 22) || not (eqb m 0) || eqb n 0)) ≡ (goodName (layer k n m) && goodNumber (layer k n m))
-  by-kind true e = rw (eqb-true k 22 e) (unnamed n (eqb n 0) (eqb m 0) (leb n (2 ^ 32 - 1)) (leb m 1) refl refl)
-  by-kind false e = rw e (resolved (eqb k 15 || eqb k 20 || eqb k 21 || false) (eqb k 14 || eqb k 21))
+      ((mayHaveName k && (not (eqb k 22) || not (eqb m 0)) && leb n (2 ^ 32 - 1) || eqb n 0) && (mayHaveNumber k || eqb k 22 && eqb m 1 || eqb m 0))
+      ≡ (goodName (layer k n m) && goodNumber (layer k n m))
+  by-kind true e =
+      rw (eqb-true k 22 e, named (not (eqb m 0)) (leb n (2 ^ 32 - 1)) (eqb n 0) (small n (2 ^ 32 - 1)), at-most-one)
+  by-kind false e =
+      let x = eqb k 15 || eqb k 20 || eqb k 21 || false in
+      rw (e, and-true, named x (leb n (2 ^ 32 - 1)) (eqb n 0) (small n (2 ^ 32 - 1)), either (mayHaveNumber k) (eqb m 0))
 
-pub within : (k n m : ℕ) (most : Limits) → k ≤ 24 → m < 2 ^ 64 → most ≡ limitsOf k →
-    (leb n (most .name) && leb m (most .number) && (not (eqb k 22) || not (eqb m 0) || eqb n 0)) ≡ goodLayer (layer k n m)
-unfolding goodLayer limitsOf
-within k n m most h f e = rw (e, lt-ltb k 25 (omega arith)) (by-kind k n m f (eqb k 22) refl)
+  pub within : (allowed : Allows) → k ≤ 24 → allowed ≡ allowedOf k →
+      ((allowed .name && (not (eqb k 22) || not (eqb m 0)) && leb n (2 ^ 32 - 1) || eqb n 0) && (allowed .number || eqb k 22 && eqb m 1 || eqb m 0))
+      ≡ goodLayer (layer k n m)
+  unfolding goodLayer allowedOf
+  within allowed h e = rw (e, lt-ltb k 25 (omega arith)) (by-kind (eqb k 22) refl)
 
 -- a good layer's kind is one of the twenty-five
 pub known : (k n m : ℕ) (good : Bool) → good ≡ goodLayer (layer k n m) → not good ≡ false → k < 25
@@ -97,6 +95,6 @@ known k n m good e f =
     first true b c e = refl
     first false b c e = absurd (false≢true e)
 
-pub holds-is : (k : ℕ) (most : Limits) → most ≡ limitsOf k → most .holds ≡ holdsInner k
-unfolding limitsOf
-holds-is k most e = rw e
+pub holds-is : (k : ℕ) (allowed : Allows) → allowed ≡ allowedOf k → allowed .holds ≡ holdsInner k
+unfolding allowedOf
+holds-is k allowed e = rw e

@@ -2,5 +2,5 @@ pub mod Kind
 pub mod Layers
 pub mod Answer
 pub mod Check
-pub mod Limits
+pub mod Allows
 pub mod Parts

@@ -1,6 +1,6 @@
+use crate::allows::allowed_of;
 use crate::answers::Checked;
 use crate::kinds::Kind;
-use crate::limits::limits_of;
 ghost use mathlib.Core.Path.{_≡_};
 ghost use mathlib.Core.Bool.{cond, not, _&&_};
 ghost use Prim.Native.Nat.{_<_};
@@ -18,10 +18,10 @@ fn good_layer(k: u64, n: u64, m: u64) -> bool
     if k > 24 {
         return false;
     }
-    let most = limits_of(k);
-    (n <= most.name)
-        & (m <= most.number)
-        & ((k != Kind::UNRESOLVED_STRUCT_OR_WORD) | (m != 0) | (n == 0))
+    let allowed = allowed_of(k);
+    let unresolved = k == Kind::UNRESOLVED_STRUCT_OR_WORD;
+    let named = allowed.name & (!unresolved | (m != 0));
+    ((named & (n <= 4294967295)) | (n == 0)) & (allowed.number | (unresolved & (m == 1)) | (m == 0))
 }
 
 // Whether a layer of this kind is a leaf early, or the last and no leaf.
@@ -29,8 +29,8 @@ fn is_misplaced(k: u64, last: bool) -> bool
     requires { ⌜ k < 25 ⌝ }
     ensures { λ r. ⌜ r ≡ cond (holdsInner k) last (not last) ⌝ }
 {
-    let most = limits_of(k);
-    if most.holds { last } else { !last }
+    let allowed = allowed_of(k);
+    if allowed.holds { last } else { !last }
 }
 
 // The first misplaced layer: the one that was found before, or this one where it is misplaced.

@@ -1,8 +1,8 @@
 // What a type is: kinds, layers, the checks of a type's words, and its parts.
+mod allows;
 mod answers;
 mod check;
 mod kinds;
-mod limits;
 mod parts;
 
 pub use answers::Checked;

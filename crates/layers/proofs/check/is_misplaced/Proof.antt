@@ -1,5 +1,4 @@
 use borrow.Author.Needs.{needs}
-use Rattle.layers.specs.Limits.{limitsOf}
 use Rattle.layers.proofs.Decide.{yes-by, no-by}
 use Rattle.layers.proofs.Within.{holds-is}
 use Rattle.layers.proofs.check.is_misplaced.Statement.{statement}
