@@ -5,3 +5,4 @@ pub mod Extremes
 pub mod Measured
 pub mod Apart
 pub mod Single
+pub mod Cases
