@@ -1,8 +1,8 @@
 -- Single answers, computed.
 -- Assumes nothing.
 use mathlib.Core.Path.{_≡_, refl}
-use mathlib.Core.List.{List, [], _∷_, _++_}
-use Prim.Native.Nat.{ℕ, _-_, _^_}
+use mathlib.Core.List.{_++_}
+use Prim.Native.Nat.{_-_, _^_}
 use Rattle.layers.specs.Kind as kind
 use Rattle.layers.specs.Layers.{layers, words}
 use Rattle.layers.specs.Answer.{given, nothing, refused}
