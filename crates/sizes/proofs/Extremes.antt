@@ -46,10 +46,10 @@ module _ (ws : List ℕ) (k : ℕ) (e : k ≡ outer (layers ws)) where
 
     pub lowest-none : halves 0 ≡ lowest (layers ws)
     unfolding lowest
-    lowest-none = rw (← e, off 1 tt, off 2 tt, off 3 tt, off 4 tt, off 5 tt)
+    lowest-none = rw (← e) (simp (off 1 tt, off 2 tt, off 3 tt, off 4 tt, off 5 tt))
 
     pub highest-none : halves 0 ≡ highest (layers ws)
     unfolding highest
     highest-none =
-        rw
-        (← e, off 1 tt, off 2 tt, off 3 tt, off 4 tt, off 5 tt, off 6 tt, off 12 tt, off 7 tt, off 8 tt, off 9 tt, off 11 tt, off 23 tt, off 24 tt, off 10 tt)
+        rw (← e)
+        (simp (off 1 tt, off 2 tt, off 3 tt, off 4 tt, off 5 tt, off 6 tt, off 7 tt, off 8 tt, off 9 tt, off 10 tt, off 11 tt, off 12 tt, off 23 tt, off 24 tt))

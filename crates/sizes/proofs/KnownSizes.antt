@@ -1,11 +1,10 @@
 -- The known size of a run of words. It is never a refusal.
 -- Assumes nothing.
 use mathlib.Core.Path.{_≡_}
-use mathlib.Core.Bool.{Bool, true, false, cond, _||_}
+use mathlib.Core.Bool.{Bool, true, false, cond}
 use mathlib.Core.List.{List, [], _∷_}
 use Prim.Native.Nat.{ℕ, _≤_, _<_}
 use native.Mathlib.Omega.{arith}
-use lib.Dec.{eqb}
 use lib.ListN.{length, getD}
 use Rattle.layers.specs.Layers.{Layer, layers}
 use Rattle.layers.specs.Answer.{Answer, given, nothing, refused}
@@ -21,6 +20,7 @@ module _ (ws : List ℕ) where
   unfolding knownSize
   known-more r h q = rw (more ws) q
 
+-- a size or none
 data Accepted : Answer ℕ → Type 0 where
   of : (n : ℕ) → Accepted (given n)
   without : Accepted nothing
@@ -42,5 +42,6 @@ not-refused : (r : Answer ℕ) (n p : ℕ) → Accepted r → r ≡ refused n p 
 not-refused r n p (of m) e = let z : _≡_ {A = ℕ} 0 1 = cc in omega arith
 not-refused r n p without e = let z : _≡_ {A = ℕ} 0 1 = cc in omega arith
 
+-- so that whoever asks for the known size meets no refusal
 pub never-refused : (a : List Layer) (n p : ℕ) → knownSize a ≡ refused n p → ⊥
 never-refused a n p e = not-refused (knownSize a) n p (accepted a) e

@@ -3,3 +3,6 @@ pub mod KnownSizes
 pub mod Pointers
 pub mod Extremes
 pub mod Measured
+pub mod Apart
+pub mod Single
+pub mod Cases

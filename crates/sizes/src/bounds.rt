@@ -140,10 +140,10 @@ pub fn min_i128(a: &[u64]) -> Bound
     match check_type(a) {
         Checked::Refused { number, place } => Bound::Refused { number, place },
         Checked::Good(_) => {
-            let value = lowest(a);
+            let least = lowest(a);
             Bound::Value {
-                low: value.low,
-                high: value.high,
+                low: least.low,
+                high: least.high,
             }
         }
     }
@@ -156,10 +156,10 @@ pub fn max_u128(a: &[u64]) -> Bound
     match check_type(a) {
         Checked::Refused { number, place } => Bound::Refused { number, place },
         Checked::Good(_) => {
-            let value = highest(a);
+            let most = highest(a);
             Bound::Value {
-                low: value.low,
-                high: value.high,
+                low: most.low,
+                high: most.high,
             }
         }
     }

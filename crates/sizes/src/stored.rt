@@ -11,6 +11,7 @@ ghost use Rattle.sizes.specs.Stored.{width, product, times, storedSize, 
 // The bytes of a pointer.
 const WIDTH: u64 = 8;
 
+// The largest size.
 const MOST: u64 = 18446744073709551615;
 
 // The division tells whether the product fits before it is made.
