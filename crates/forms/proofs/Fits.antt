@@ -7,7 +7,7 @@ use Prim.Native.Nat.{ℕ, _≤_, _<_}
 use lib.Dec.{eqb}
 use lib.ListN.{length, getD}
 use borrow.Author.Tests.{eqb-true, ne-eqb, not-true, not-false}
-use Rattle.layers.specs.Kind as kind
+use Rattle.kinds.specs.Kind as kind
 use Rattle.layers.specs.Layers.{Layer, layers, outer, inside, isArray, isSlice, isReference, holdsInner}
 use Rattle.layers.proofs.Words.{none, more, rest, outer-more}
 use Rattle.forms.specs.Formed.{inner, element, wellFormed}

@@ -9,8 +9,6 @@ use Rattle.forms.proofs.formed.wellformed.Kinds as wellformed-kinds
 use Rattle.forms.proofs.formed.wellformed.Reads as wellformed
 use Rattle.forms.proofs.properties.has.Kinds as has-kinds
 use Rattle.forms.proofs.properties.has.Reads as has
-use Rattle.forms.proofs.roles.can_be.Kinds as can-be-kinds
-use Rattle.forms.proofs.roles.can_be.Reads as can-be
 
 pub is-wellformed-single : Single 1 is-wellformed-kinds.ps is-wellformed-kinds.r is-wellformed.Post
 is-wellformed-single κs a x y s t p q = p ∙ sym q
@@ -20,6 +18,3 @@ wellformed-single κs a x y s t p q = verdict-apart x y (p ∙ sym q)
 
 pub has-single : Single 1 has-kinds.ps has-kinds.r has.Post
 has-single κs a x y s t p q = verdict-apart x y (p ∙ sym q)
-
-pub can-be-single : Single 1 can-be-kinds.ps can-be-kinds.r can-be.Post
-can-be-single κs a x y s t p q = verdict-apart x y (p ∙ sym q)

@@ -1,11 +1,11 @@
+use kinds::Kind;
 use layers::Checked;
-use layers::Kind;
 use layers::Verdict;
 use layers::check_type;
 ghost use mathlib.Core.Path.{_≡_};
 ghost use mathlib.Core.Bool.{not, _||_};
 ghost use lib.Dec.{eqb};
-ghost use Rattle.layers.specs.Kind as kind;
+ghost use Rattle.kinds.specs.Kind as kind;
 ghost use Rattle.layers.specs.Layers.{layers, isArray, isSlice, isReference};
 ghost use Rattle.layers.specs.Answer.{ofVerdict};
 ghost use Rattle.forms.specs.Formed as formed;

@@ -1,11 +1,8 @@
-// What a type may be: well formed, of which property, in which role.
+// What a type is: well formed, and what its outer kind alone tells.
 mod formed;
 mod properties;
-mod roles;
 
 pub use formed::is_wellformed;
 pub use formed::wellformed;
 pub use properties::Property;
 pub use properties::has;
-pub use roles::Role;
-pub use roles::can_be;

@@ -1,11 +1,9 @@
 -- The paper's answers tell the cases of each enum apart.
 -- Assumes nothing.
 use mathlib.Core.Path.{_≡_}
-use Rattle.layers.specs.Answer.{ofChecked, ofVerdict, ofStart}
+use Rattle.layers.specs.Answer.{ofChecked, ofVerdict}
 use Rattle.layers.specs.declared.answers.Checked.{Checked}
 use Rattle.layers.specs.declared.answers.Checked.the-variants as checked
-use Rattle.layers.specs.declared.answers.Start.{Start}
-use Rattle.layers.specs.declared.answers.Start.the-variants as start
 use Rattle.layers.specs.declared.answers.Verdict.{Verdict}
 use Rattle.layers.specs.declared.answers.Verdict.the-variants as verdict
 
@@ -25,14 +23,3 @@ verdict-apart verdict.No (verdict.Refused n p) e = cc
 verdict-apart (verdict.Refused n p) verdict.Yes e = cc
 verdict-apart (verdict.Refused n p) verdict.No e = cc
 verdict-apart (verdict.Refused n p) (verdict.Refused m q) e = cc
-
-pub start-apart : (x y : Start) → ofStart x ≡ ofStart y → x ≡ y
-start-apart (start.At i) (start.At j) e = cc
-start-apart (start.At i) start.Nothing e = cc
-start-apart (start.At i) (start.Refused n p) e = cc
-start-apart start.Nothing (start.At j) e = cc
-start-apart start.Nothing start.Nothing e = cc
-start-apart start.Nothing (start.Refused n p) e = cc
-start-apart (start.Refused n p) (start.At j) e = cc
-start-apart (start.Refused n p) start.Nothing e = cc
-start-apart (start.Refused n p) (start.Refused m q) e = cc

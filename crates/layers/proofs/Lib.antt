@@ -4,7 +4,6 @@ pub mod Words
 pub mod Table
 pub mod Within
 pub mod Checks
-pub mod Dereferenced
 pub mod Cycle
 pub mod Refusals
 pub mod Apart

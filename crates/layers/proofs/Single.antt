@@ -4,22 +4,13 @@ use mathlib.Core.Path.{_≡_, sym, _∙_}
 use mathlib.Core.List.{List}
 use Prim.Native.Nat.{ℕ}
 use contract.Lifetimes.{Lfts}
-use denote.Ref.{now}
 use denote.Triple.Clauses.{AtExit}
 use borrow.Fn.Kinds.{PK, RK, Out, Dens, resT, endedOf}
-use Rattle.layers.proofs.Apart.{checked-apart, start-apart}
+use Rattle.layers.proofs.Apart.{checked-apart, verdict-apart}
 use Rattle.layers.proofs.check.check_type.Kinds as check-type-kinds
 use Rattle.layers.proofs.check.check_type.Reads as check-type
-use Rattle.layers.proofs.parts.outer.Kinds as outer-kinds
-use Rattle.layers.proofs.parts.outer.Reads as outer
-use Rattle.layers.proofs.parts.inner.Kinds as part-kinds
-use Rattle.layers.proofs.parts.inner.Reads as inner
-use Rattle.layers.proofs.parts.get_element_type.Reads as element
-use Rattle.layers.proofs.parts.get_pointee_type.Reads as pointee
-use Rattle.layers.proofs.parts.get_viewee_type.Reads as viewee
-use Rattle.layers.proofs.parts.fully_dereferenced.Reads as dereferenced
-use Rattle.layers.proofs.parts.start_of.Kinds as start-of-kinds
-use Rattle.layers.proofs.parts.start_of.Reads as start-of
+use Rattle.layers.proofs.answers.Verdict.of.Kinds as of-kinds
+use Rattle.layers.proofs.answers.Verdict.of.Reads as of
 
 abbrev pub Single : (n : ℕ) (ps : List (PK n)) (r : RK n) → Out n ps r → Type 0
 Single n ps r Q =
@@ -28,29 +19,5 @@ Single n ps r Q =
 pub check-type-single : Single 1 check-type-kinds.ps check-type-kinds.r check-type.Post
 check-type-single κs a x y s t p q = checked-apart x y (p ∙ sym q)
 
-pub outer-single : Single 1 outer-kinds.ps outer-kinds.r outer.Post
-outer-single κs a x y s t p q = p ∙ sym q
-
-pub start-of-single : Single 1 start-of-kinds.ps start-of-kinds.r start-of.Post
-start-of-single κs a x y s t p q = start-apart x y (p ∙ sym q)
-
--- of a part that is handed back, the words coincide
-abbrev SinglePart : Out 1 part-kinds.ps part-kinds.r → Type 0
-SinglePart Q =
-    (κs : Lfts 1) (a : Dens κs part-kinds.ps) (x y : resT part-kinds.r κs .Denot) (s t : AtExit (endedOf 1 part-kinds.ps part-kinds.r) κs) →
-    Q κs a x s → Q κs a y t → now x ≡ now y
-
-pub inner-single : SinglePart inner.Post
-inner-single κs a x y s t p q = p ∙ sym q
-
-pub get-element-type-single : SinglePart element.Post
-get-element-type-single κs a x y s t p q = p ∙ sym q
-
-pub get-pointee-type-single : SinglePart pointee.Post
-get-pointee-type-single κs a x y s t p q = p ∙ sym q
-
-pub get-viewee-type-single : SinglePart viewee.Post
-get-viewee-type-single κs a x y s t p q = p ∙ sym q
-
-pub fully-dereferenced-single : SinglePart dereferenced.Post
-fully-dereferenced-single κs a x y s t p q = p ∙ sym q
+pub of-single : Single 0 of-kinds.ps of-kinds.r of.Post
+of-single κs a x y s t p q = verdict-apart x y (p ∙ sym q)

@@ -8,7 +8,7 @@ use native.Mathlib.Omega.{arith}
 use lib.Dec.{T, eqb, leb, ltb, eqb→eq}
 use lib.ListN.{length, getD}
 use borrow.Author.Tests.{le-ltb, lt-ltb, le-leb, lt-leb, ne-eqb, eqb-true, ltb-true, not-false}
-use Rattle.layers.specs.Kind as kind
+use Rattle.kinds.specs.Kind as kind
 use Rattle.layers.specs.Layers.{Layer, layer, holdsInner}
 use Rattle.layers.specs.Check.{goodLayer, goodName, goodNumber}
 use Rattle.layers.specs.Allows.{allowedOf, mayHaveName, mayHaveNumber}

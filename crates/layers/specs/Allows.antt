@@ -2,7 +2,7 @@
 use mathlib.Core.Bool.{Bool, _||_}
 use Prim.Native.Nat.{ℕ}
 use lib.Dec.{eqb}
-use Rattle.layers.specs.Kind as kind
+use Rattle.kinds.specs.Kind as kind
 use Rattle.layers.specs.Layers.{holdsInner}
 use Rattle.layers.specs.declared.allows.Allows.{Allows}
 

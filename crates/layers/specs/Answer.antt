@@ -4,8 +4,6 @@ use mathlib.Core.Bool.{Bool, true, false}
 use Prim.Native.Nat.{ℕ}
 use Rattle.layers.specs.declared.answers.Checked.{Checked}
 use Rattle.layers.specs.declared.answers.Checked.the-variants as checked
-use Rattle.layers.specs.declared.answers.Start.{Start}
-use Rattle.layers.specs.declared.answers.Start.the-variants as start
 use Rattle.layers.specs.declared.answers.Verdict.{Verdict}
 use Rattle.layers.specs.declared.answers.Verdict.the-variants as verdict
 
@@ -25,12 +23,6 @@ abbrev pub ofVerdict : Verdict → Answer ℕ
 ofVerdict verdict.Yes = given 1
 ofVerdict verdict.No = given 0
 ofVerdict (verdict.Refused n p) = refused n p
-
--- The word at which a part starts, or that there is no such part.
-abbrev pub ofStart : Start → Answer ℕ
-ofStart (start.At n) = given n
-ofStart start.Nothing = nothing
-ofStart (start.Refused n p) = refused n p
 
 -- A refusal stands; else what follows.
 abbrev pub next : {A B : Type 0} → Answer A → Answer B → Answer B

@@ -4,7 +4,7 @@ use mathlib.Core.List.{List, [], _∷_}
 use Prim.Native.Nat.{ℕ}
 use lib.Dec.{eqb}
 use lib.ListN.{drop}
-use Rattle.layers.specs.Kind as kind
+use Rattle.kinds.specs.Kind as kind
 
 -- "A layer is three u64 words: kind, name, number."
 pub record Layer : Type 0 where
@@ -14,9 +14,6 @@ pub record Layer : Type 0 where
 
 abbrev pub layer : ℕ → ℕ → ℕ → Layer
 layer k n m = record { kind = k; name = n; number = m }
-
-abbrev pub words : ℕ → ℕ → ℕ → List ℕ
-words k n m = k ∷ n ∷ m ∷ []
 
 -- "A type is a run of layers, outermost first, ended by a leaf."
 unfoldable pub layers : List ℕ → List Layer

@@ -1,6 +1,4 @@
-pub mod Kind
 pub mod Layers
 pub mod Answer
 pub mod Check
 pub mod Allows
-pub mod Parts

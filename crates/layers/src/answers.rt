@@ -21,10 +21,3 @@ impl Verdict {
         if yes { Verdict::Yes } else { Verdict::No }
     }
 }
-
-// The word at which a part of a type starts.
-pub enum Start {
-    At(u64),
-    Nothing,
-    Refused { number: u64, place: u64 },
-}

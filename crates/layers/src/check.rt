@@ -1,6 +1,6 @@
 use crate::allows::allowed_of;
 use crate::answers::Checked;
-use crate::kinds::Kind;
+use kinds::Kind;
 ghost use mathlib.Core.Path.{_≡_};
 ghost use mathlib.Core.Bool.{cond, not, _&&_};
 ghost use Prim.Native.Nat.{_<_};

@@ -3,8 +3,9 @@
 use mathlib.Core.Path.{_≡_, refl}
 use mathlib.Core.List.{_++_}
 use Prim.Native.Nat.{_-_, _^_}
-use Rattle.layers.specs.Kind as kind
-use Rattle.layers.specs.Layers.{layers, words}
+use Rattle.kinds.specs.Kind as kind
+use Rattle.kinds.specs.Words.{words}
+use Rattle.layers.specs.Layers.{layers}
 use Rattle.layers.specs.Answer.{given, nothing, refused}
 use Rattle.layers.specs.Check.{checkOf, goodLayer, badLayer, misplaced}
 use Rattle.sizes.specs.Known.{knownOf}

@@ -11,7 +11,7 @@ use mir.Val.{Fits}
 use lib.Dec.{eqb}
 use lib.ListN.{length, getD}
 use borrow.Author.Tests.{lt-ltb, le-ltb, ne-eqb}
-use Rattle.layers.specs.Kind as kind
+use Rattle.kinds.specs.Kind as kind
 use Rattle.layers.specs.Layers.{layers}
 use Rattle.layers.specs.Answer.{Answer, given, nothing, refused}
 use Rattle.layers.proofs.Words.{none, more, rest}

@@ -10,7 +10,7 @@ use mir.Val.{Fits}
 use lib.Dec.{eqb}
 use lib.ListN.{length, getD, length-drop}
 use borrow.Author.Tests.{ne-eqb}
-use Rattle.layers.specs.Kind as kind
+use Rattle.kinds.specs.Kind as kind
 use Rattle.layers.specs.Layers.{layers}
 use Rattle.layers.proofs.Words.{none, more, rest, rest-is}
 use Rattle.sizes.specs.Depth.{pointerDepth}

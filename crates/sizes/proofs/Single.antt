@@ -1,11 +1,7 @@
--- Each public contract allows one result: any two results that it allows of the same arguments coincide.
+-- Each public contract allows one result: any two that it allows of the same arguments coincide.
 -- Assumes nothing.
 use mathlib.Core.Path.{_≡_, sym, _∙_}
-use mathlib.Core.List.{List}
-use Prim.Native.Nat.{ℕ}
-use contract.Lifetimes.{Lfts}
-use denote.Triple.Clauses.{AtExit}
-use borrow.Fn.Kinds.{PK, RK, Out, Dens, resT, endedOf}
+use Rattle.layers.proofs.Single.{Single}
 use Rattle.sizes.proofs.Apart.{size-apart, count-apart, bound-apart}
 use Rattle.sizes.proofs.known.known_size.Kinds as known-size-kinds
 use Rattle.sizes.proofs.known.known_size.Reads as known-size
@@ -21,10 +17,6 @@ use Rattle.sizes.proofs.bounds.max_u128.Kinds as max-u128-kinds
 use Rattle.sizes.proofs.bounds.max_u128.Reads as max-u128
 use Rattle.sizes.proofs.stored.stored_size.Kinds as stored-size-kinds
 use Rattle.sizes.proofs.stored.stored_size.Reads as stored-size
-
-abbrev pub Single : (n : ℕ) (ps : List (PK n)) (r : RK n) → Out n ps r → Type 0
-Single n ps r Q =
-    (κs : Lfts n) (a : Dens κs ps) (x y : resT r κs .Denot) (s t : AtExit (endedOf n ps r) κs) → Q κs a x s → Q κs a y t → x ≡ y
 
 pub known-size-single : Single 1 known-size-kinds.ps known-size-kinds.r known-size.Post
 known-size-single κs a x y s t p q = size-apart x y (p ∙ sym q)

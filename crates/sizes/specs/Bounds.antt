@@ -3,7 +3,7 @@ use mathlib.Core.Bool.{cond, _||_}
 use mathlib.Core.List.{List}
 use Prim.Native.Nat.{ℕ, _-_, _^_, _/_, _%_}
 use lib.Dec.{eqb}
-use Rattle.layers.specs.Kind as kind
+use Rattle.kinds.specs.Kind as kind
 use Rattle.layers.specs.Layers.{Layer, layers, outer}
 use Rattle.layers.specs.Answer.{Answer, given, next}
 use Rattle.layers.specs.Check.{checkOf}

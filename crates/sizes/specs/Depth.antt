@@ -3,7 +3,7 @@ use mathlib.Core.Bool.{cond}
 use mathlib.Core.List.{List, [], _∷_}
 use Prim.Native.Nat.{ℕ, _+_}
 use lib.Dec.{eqb}
-use Rattle.layers.specs.Kind as kind
+use Rattle.kinds.specs.Kind as kind
 use Rattle.layers.specs.Layers.{Layer, layers}
 use Rattle.layers.specs.Answer.{Answer, given, next}
 use Rattle.layers.specs.Check.{checkOf}

@@ -1,6 +1,6 @@
 use crate::answers::Size;
+use kinds::Kind;
 use layers::Checked;
-use layers::Kind;
 use layers::check_type;
 ghost use mathlib.Core.Path.{_≡_};
 ghost use Rattle.layers.specs.Layers.{layers};

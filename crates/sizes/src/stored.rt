@@ -1,7 +1,7 @@
 use crate::answers::Size;
 use crate::known::known_size;
+use kinds::Kind;
 use layers::Checked;
-use layers::Kind;
 use layers::check_type;
 ghost use mathlib.Core.Path.{_≡_};
 ghost use Rattle.layers.specs.Layers.{layers};

@@ -1,0 +1,4 @@
+// The kinds of layers.
+mod kinds;
+
+pub use kinds::Kind;

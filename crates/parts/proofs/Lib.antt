@@ -1,0 +1,4 @@
+-- What the proofs of several functions use.
+pub mod Dereferenced
+pub mod Apart
+pub mod Single

@@ -1,0 +1,26 @@
+use borrow.Author.Needs.{needs}
+use Rattle.parts.proofs.Dereferenced.{shorter-left, at-element, at-pointee, at-viewee, at-dereferenced}
+use Rattle.parts.proofs.starts.start_in.Statement.{statement}
+use Rattle.parts.proofs.starts.start_in.Tie as tie
+
+pub start-in-spec : {M : Type 1} → statement M
+start-in-spec =
+    tie.close
+    (tie.spec
+    (λ c. search needs)
+    (λ c κs. search needs)
+    (λ c κs. search needs)
+    (λ c κs. search needs)
+    (λ c. search needs)
+    (λ c κs. search needs)
+    (λ c κs. search needs)
+    (λ c. search needs)
+    (λ c κs. search needs)
+    (λ c κs. search needs)
+    (λ c. search needs)
+    (λ c κs. search needs)
+    (λ c. search (needs, shorter-left))
+    (λ c. search at-element)
+    (λ c. search at-pointee)
+    (λ c. search at-viewee)
+    (λ c. search (at-dereferenced, needs)))

@@ -1,0 +1,17 @@
+use borrow.Author.Needs.{needs}
+use Rattle.parts.specs.Starts.{startAnswer}
+use Rattle.layers.proofs.Refusals.{refuses, accepts}
+use Rattle.parts.proofs.starts.start_of.Statement.{statement}
+use Rattle.parts.proofs.starts.start_of.Tie as tie
+
+pub start-of-spec : {M : Type 1} → statement M
+unfolding startAnswer
+start-of-spec =
+    tie.close
+    (tie.spec
+    (λ c κs. search needs)
+    (λ c. search needs)
+    (λ c. search needs)
+    (λ c κs. search needs)
+    (λ c. search refuses)
+    (λ c. search accepts))

@@ -1,0 +1,61 @@
+use crate::layer::inner;
+use crate::layer::outer;
+use kinds::Kind;
+ghost use mathlib.Core.Path.{_≡_};
+ghost use Rattle.parts.specs.Parts.{elementOf, pointeeOf, vieweeOf, fullyDereferenced, hasElement, innerIf};
+
+pub(crate) fn has_element(k: u64) -> bool
+    ensures { λ r. ⌜ r ≡ hasElement k ⌝ }
+{
+    (k == Kind::ARRAY)
+        | (k == Kind::ARRAY_WITH_NAMED_LENGTH)
+        | (k == Kind::ENDLESS_ARRAY)
+        | (k == Kind::ARRAYLIKE)
+        | ((k == Kind::SLICE) | (k == Kind::SLICE_POINTER))
+}
+
+// The inner type where the type has it; else no words.
+fn inner_if(there: bool, a: &[u64]) -> &[u64]
+    ensures { λ r. ⌜ now r ≡ innerIf there (now (a .entry)) ⌝ }
+{
+    if there {
+        return inner(a);
+    }
+    &a[..0]
+}
+
+// The element type of an array or a slice; of any other type no words.
+pub fn get_element_type(a: &[u64]) -> &[u64]
+    ensures { λ r. ⌜ now r ≡ elementOf (now (a .entry)) ⌝ }
+{
+    inner_if(has_element(outer(a)), a)
+}
+
+// The type that a Pointer points to; of any other type no words.
+pub fn get_pointee_type(a: &[u64]) -> &[u64]
+    ensures { λ r. ⌜ now r ≡ pointeeOf (now (a .entry)) ⌝ }
+{
+    inner_if(outer(a) == Kind::POINTER, a)
+}
+
+// The type that a View views; of any other type no words.
+pub fn get_viewee_type(a: &[u64]) -> &[u64]
+    ensures { λ r. ⌜ now r ≡ vieweeOf (now (a .entry)) ⌝ }
+{
+    inner_if(outer(a) == Kind::VIEW, a)
+}
+
+// The type without the Pointers and Views that stand outside everything else.
+pub fn fully_dereferenced(a: &[u64]) -> &[u64]
+    ensures { λ r. ⌜ now r ≡ fullyDereferenced (now (a .entry)) ⌝ }
+{
+    if a.len() < 3 {
+        return a;
+    }
+    let k = a[0];
+    if (k == Kind::POINTER) | (k == Kind::VIEW) {
+        fully_dereferenced(&a[3..])
+    } else {
+        a
+    }
+}

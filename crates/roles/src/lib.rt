@@ -1,0 +1,5 @@
+// What a type can be used as.
+mod roles;
+
+pub use roles::Role;
+pub use roles::can_be;
