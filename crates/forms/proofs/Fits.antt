@@ -1,6 +1,6 @@
 -- Well formed, by the outer kind and by what is inside.
 -- Assumes nothing.
-use mathlib.Core.Path.{_≡_, refl, sym, _∙_, subst}
+use mathlib.Core.Path.{_≡_, refl, sym, _∙_, ap, subst}
 use mathlib.Core.Bool.{Bool, true, false, not, _&&_, _||_, and-true, and-false, true≢false, false≢true}
 use mathlib.Core.List.{List, [], _∷_}
 use Prim.Native.Nat.{ℕ, _≤_, _<_}
@@ -31,12 +31,9 @@ module _ (P : ℕ → Type 0) (k : ℕ) where
   references t a b = or _ 24 t b (λ t. one 23 t a)
 
 -- a test that failed, taken apart
-fourth : (v s t n w : Bool) → (v || s || t || n || w) ≡ false → n ≡ false
-fourth v s t false w e = refl
-fourth true s t true w e = absurd (true≢false e)
-fourth false true t true w e = absurd (true≢false e)
-fourth false false true true w e = absurd (true≢false e)
-fourth false false false true w e = absurd (true≢false e)
+last : (a b : Bool) → (a || b) ≡ false → b ≡ false
+last false b e = e
+last true b e = absurd (true≢false e)
 
 or-false : (b : Bool) → (b || false) ≡ b
 or-false true = refl
@@ -57,7 +54,7 @@ abbrev pub noInner : ℕ → Bool
 noInner k = eqb k kind.void || eqb k kind.slice || eqb k kind.slicePointer || eqb k kind.view
 
 abbrev pub noElement : ℕ → Bool
-noElement k = eqb k kind.void || eqb k kind.slice || eqb k kind.slicePointer || eqb k kind.endlessArray || eqb k kind.view
+noElement k = noInner k || eqb k kind.endlessArray
 
 either : (a b : Bool) {A : Type 0} → (a || b) ≡ true → (a ≡ true → A) → (b ≡ true → A) → A
 either true b t f g = f refl
@@ -77,8 +74,8 @@ module _ (k : ℕ) (e i : Bool) where
 
   no-element : noElement k ≡ true → asElement k e i ≡ false
   no-element t =
-      let P : ℕ → Type 0 = λ (k : ℕ). asElement k e i ≡ false in
-      or P k _ 24 t refl (λ t. or P k _ 18 t (and-false (asInner 18 e i)) (λ t. or P k _ 17 t refl (λ t. or P k _ 16 t refl (λ t. one P k 0 t refl))))
+      or (λ (k : ℕ). asElement k e i ≡ false) k _ 18 t (and-false (asInner 18 e i))
+      (λ t. ap (λ (b : Bool). b && not (eqb k kind.endlessArray)) (no-inner t))
 
   array-type : (isArray k || isSlice k) ≡ true → asType k e i ≡ e
   array-type t =
@@ -149,7 +146,7 @@ module _ (a : List ℕ) where
       unfolding element
       element-held p t e =
           let k = getD a 0 0 in
-          let n = fourth (eqb k 0) (eqb k 16) (eqb k 17) (eqb k 18) (eqb k 24) (not-true _ (sym p ∙ t)) in
+          let n = last (noInner k) (eqb k 18) (not-true _ (sym p ∙ t)) in
           rw (← outer-more a h, n, and-true) e
 
       pub inner-array : f ≡ isArray (getD a 0 0) → f ≡ true → r ≡ element (layers (rest a)) → r ≡ inner (layers a)

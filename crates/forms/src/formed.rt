@@ -33,13 +33,13 @@ fn is_reference(k: u64) -> bool
 
 // Whether an array may hold a type with this outer kind.
 fn can_be_element(k: u64) -> bool
-    ensures { λ r. ⌜ r ≡ not (eqb k kind.void || eqb k kind.slice || eqb k kind.slicePointer || eqb k kind.endlessArray || eqb k kind.view) ⌝ }
+    ensures { λ r. ⌜ r ≡ not (eqb k kind.void || eqb k kind.slice || eqb k kind.slicePointer || eqb k kind.view || eqb k kind.endlessArray) ⌝ }
 {
     !((k == Kind::VOID)
         | (k == Kind::SLICE)
         | (k == Kind::SLICE_POINTER)
-        | (k == Kind::ENDLESS_ARRAY)
-        | (k == Kind::VIEW))
+        | (k == Kind::VIEW)
+        | (k == Kind::ENDLESS_ARRAY))
 }
 
 // Whether a type is well formed.
