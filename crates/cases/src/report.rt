@@ -1,0 +1,144 @@
+use forms::Property;
+use layers::Checked;
+use layers::Verdict;
+use parts::Part;
+use parts::Start;
+use roles::Role;
+use sizes::Bound;
+use sizes::Count;
+use sizes::Size;
+
+const OUT: i32 = 1;
+
+fn text(s: &[u8]) {
+    io::write_all(OUT, s);
+}
+
+fn given(n: u64) {
+    text(b" ");
+    io::print_decimal(OUT, n);
+}
+
+fn refused(number: u64, place: u64) {
+    text(b" !");
+    io::print_decimal(OUT, number);
+    text(b"@");
+    io::print_decimal(OUT, place);
+}
+
+fn checked(c: Checked) {
+    match c {
+        Checked::Good(n) => given(n),
+        Checked::Refused { number, place } => refused(number, place),
+    }
+}
+
+fn verdict(v: Verdict) {
+    match v {
+        Verdict::Yes => given(1),
+        Verdict::No => given(0),
+        Verdict::Refused { number, place } => refused(number, place),
+    }
+}
+
+fn start(s: Start) {
+    match s {
+        Start::At(n) => given(n),
+        Start::Nothing => text(b" -"),
+        Start::Refused { number, place } => refused(number, place),
+    }
+}
+
+fn size(s: Size) {
+    match s {
+        Size::Bytes(n) => given(n),
+        Size::Nothing => text(b" -"),
+        Size::Refused { number, place } => refused(number, place),
+    }
+}
+
+fn count(c: Count) {
+    match c {
+        Count::Of(n) => given(n),
+        Count::Refused { number, place } => refused(number, place),
+    }
+}
+
+fn bound(b: Bound) {
+    match b {
+        Bound::Value { low, high } => {
+            text(b" ");
+            io::print_hex(OUT, high, 1);
+            text(b":");
+            io::print_hex(OUT, low, 1);
+        }
+        Bound::Refused { number, place } => refused(number, place),
+    }
+}
+
+fn properties(ws: &[u64]) {
+    verdict(forms::wellformed(ws));
+    verdict(forms::has(Property::Void, ws));
+    verdict(forms::has(Property::Integral, ws));
+    verdict(forms::has(Property::Signed, ws));
+    verdict(forms::has(Property::Bitfield, ws));
+    verdict(forms::has(Property::SlicePointer, ws));
+}
+
+fn uses(ws: &[u64]) {
+    text(b" |");
+    verdict(roles::can_be(Role::Sized, ws));
+    verdict(roles::can_be(Role::StructMember, ws));
+    verdict(roles::can_be(Role::WordMember, ws));
+    verdict(roles::can_be(Role::Constant, ws));
+    verdict(roles::can_be(Role::Variable, ws));
+    verdict(roles::can_be(Role::Parameter, ws));
+    verdict(roles::can_be(Role::Returned, ws));
+}
+
+fn starts(ws: &[u64]) {
+    text(b" |");
+    start(parts::start_of(Part::Element, ws));
+    start(parts::start_of(Part::Pointee, ws));
+    start(parts::start_of(Part::Viewee, ws));
+    start(parts::start_of(Part::Dereferenced, ws));
+}
+
+fn measures(ws: &[u64]) {
+    text(b" |");
+    size(sizes::known_size_in_bytes_as_word_member(ws));
+    count(sizes::pointer_depth(ws));
+    bound(sizes::min_i128(ws));
+    bound(sizes::max_u128(ws));
+    size(sizes::stored_size(ws));
+}
+
+pub fn heading() {
+    text(b"words: layers wellformed void integral signed bitfield slice_pointer");
+    text(b" | sized struct_member word_member constant variable parameter returned");
+    text(b" | element pointee viewee dereferenced");
+    text(b" | known depth min max stored\n");
+}
+
+// One line: how many words, the first layer, the second's kind, and every answer.
+pub fn report(ws: &[u64]) {
+    io::print_decimal(OUT, ws.len() as u64);
+    if ws.len() >= 3 {
+        text(b" (");
+        io::print_decimal(OUT, ws[0]);
+        given(ws[1]);
+        given(ws[2]);
+        if ws.len() >= 6 {
+            text(b" of");
+            given(ws[3]);
+        }
+        text(b")");
+    }
+    text(b":");
+    checked(layers::check_type(ws));
+    properties(ws);
+    uses(ws);
+    starts(ws);
+    measures(ws);
+    text(b"\n");
+}
