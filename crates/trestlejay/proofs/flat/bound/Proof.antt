@@ -1,0 +1,14 @@
+use borrow.Author.Needs.{needs}
+use Rattle.trestlejay.specs.Flat as rules
+use Rattle.trestlejay.proofs.flat.bound.Statement.{statement}
+use Rattle.trestlejay.proofs.flat.bound.Tie as tie
+
+pub bound-spec : {M : Type 1} → statement M
+unfolding rules.flatHalves rules.lowAfter rules.highAfter
+bound-spec =
+    tie.close
+    (tie.spec
+    (λ c. search needs)
+    (λ c. search needs)
+    (λ c. ((cc), ((cc), (cc))))
+    (λ c. ((cc), ((cc), (cc)))))

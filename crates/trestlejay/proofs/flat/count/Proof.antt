@@ -1,0 +1,14 @@
+use borrow.Author.Needs.{needs}
+use Rattle.trestlejay.specs.Flat as rules
+use Rattle.trestlejay.proofs.flat.count.Statement.{statement}
+use Rattle.trestlejay.proofs.flat.count.Tie as tie
+
+pub count-spec : {M : Type 1} → statement M
+unfolding rules.flat
+count-spec =
+    tie.close
+    (tie.spec
+    (λ c. search needs)
+    (λ c. search needs)
+    (λ c. cc)
+    (λ c. cc))

@@ -1,0 +1,16 @@
+use borrow.Author.Needs.{needs}
+use Rattle.trestlejay.specs.Flat as rules
+use Rattle.trestlejay.proofs.flat.size.Statement.{statement}
+use Rattle.trestlejay.proofs.flat.size.Tie as tie
+
+pub size-spec : {M : Type 1} → statement M
+unfolding rules.flatFound rules.foundAfter
+size-spec =
+    tie.close
+    (tie.spec
+    (λ c. search needs)
+    (λ c. search needs)
+    (λ c. search needs)
+    (λ c. ((cc), (cc)))
+    (λ c. ((cc), (cc)))
+    (λ c. ((cc), (cc))))

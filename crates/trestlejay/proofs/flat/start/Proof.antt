@@ -1,0 +1,16 @@
+use borrow.Author.Needs.{needs}
+use Rattle.trestlejay.specs.Flat as rules
+use Rattle.trestlejay.proofs.flat.start.Statement.{statement}
+use Rattle.trestlejay.proofs.flat.start.Tie as tie
+
+pub start-spec : {M : Type 1} → statement M
+unfolding rules.flat
+start-spec =
+    tie.close
+    (tie.spec
+    (λ c. search needs)
+    (λ c. search needs)
+    (λ c. search needs)
+    (λ c. cc)
+    (λ c. cc)
+    (λ c. cc))

@@ -1,0 +1,16 @@
+use borrow.Author.Needs.{needs}
+use Rattle.trestlejay.specs.Flat as rules
+use Rattle.trestlejay.proofs.flat.verdict.Statement.{statement}
+use Rattle.trestlejay.proofs.flat.verdict.Tie as tie
+
+pub verdict-spec : {M : Type 1} → statement M
+unfolding rules.flat
+verdict-spec =
+    tie.close
+    (tie.spec
+    (λ c. search needs)
+    (λ c. search needs)
+    (λ c. search needs)
+    (λ c. cc)
+    (λ c. cc)
+    (λ c. cc))

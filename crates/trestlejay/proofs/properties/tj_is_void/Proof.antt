@@ -1,0 +1,11 @@
+use borrow.Author.Needs.{needs}
+use Rattle.trestlejay.proofs.properties.tj_is_void.Statement.{statement}
+use Rattle.trestlejay.proofs.properties.tj_is_void.Tie as tie
+
+pub tj-is-void-spec : {M : Type 1} → statement M
+tj-is-void-spec =
+    tie.close
+    (tie.spec
+    (λ c κs. search needs)
+    (λ c κs. search needs)
+    (λ c. cc))

@@ -1,0 +1,131 @@
+use layers::Checked;
+use layers::Verdict;
+use parts::Start;
+use sizes::Bound;
+use sizes::Count;
+use sizes::Size;
+ghost use mathlib.Core.Path.{_≡_};
+ghost use Rattle.layers.specs.Answer.{ofChecked, ofVerdict};
+ghost use Rattle.parts.specs.Starts.{ofStart};
+ghost use Rattle.sizes.specs.Answer.{ofSize, ofCount, ofBound};
+ghost use Rattle.trestlejay.specs.Flat as rules;
+
+// An answer as C has it: the refusal's number, or 0; and the value, or the refusal's place.
+#[repr(C)]
+pub struct Answer {
+    pub refusal: u64,
+    pub value: u64,
+}
+
+pub(crate) fn checked(c: Checked) -> Answer
+    ensures { λ r. ⌜ r ≡ rules.flat (ofChecked c) ⌝ }
+{
+    match c {
+        Checked::Good(n) => Answer {
+            refusal: 0,
+            value: n,
+        },
+        Checked::Refused { number, place } => Answer {
+            refusal: number,
+            value: place,
+        },
+    }
+}
+
+pub(crate) fn verdict(v: Verdict) -> Answer
+    ensures { λ r. ⌜ r ≡ rules.flat (ofVerdict v) ⌝ }
+{
+    match v {
+        Verdict::Yes => Answer {
+            refusal: 0,
+            value: 1,
+        },
+        Verdict::No => Answer {
+            refusal: 0,
+            value: 0,
+        },
+        Verdict::Refused { number, place } => Answer {
+            refusal: number,
+            value: place,
+        },
+    }
+}
+
+pub(crate) fn start(s: Start) -> Answer
+    ensures { λ r. ⌜ r ≡ rules.flat (ofStart s) ⌝ }
+{
+    match s {
+        Start::At(n) => Answer {
+            refusal: 0,
+            value: n,
+        },
+        Start::Nothing => Answer {
+            refusal: 0,
+            value: 0,
+        },
+        Start::Refused { number, place } => Answer {
+            refusal: number,
+            value: place,
+        },
+    }
+}
+
+pub(crate) fn count(c: Count) -> Answer
+    ensures { λ r. ⌜ r ≡ rules.flat (ofCount c) ⌝ }
+{
+    match c {
+        Count::Of(n) => Answer {
+            refusal: 0,
+            value: n,
+        },
+        Count::Refused { number, place } => Answer {
+            refusal: number,
+            value: place,
+        },
+    }
+}
+
+// The size goes where it was lent; without a size, what stood there stays.
+pub(crate) fn size(s: Size, out: &mut u64) -> Answer
+    ensures answer { λ r. ⌜ r ≡ rules.flatFound (ofSize s) ⌝ }
+    ensures written { λ _. ⌜ now (out .exit) ≡ rules.foundAfter (ofSize s) (now (out .entry)) ⌝ }
+{
+    match s {
+        Size::Bytes(n) => {
+            *out = n;
+            Answer {
+                refusal: 0,
+                value: 1,
+            }
+        }
+        Size::Nothing => Answer {
+            refusal: 0,
+            value: 0,
+        },
+        Size::Refused { number, place } => Answer {
+            refusal: number,
+            value: place,
+        },
+    }
+}
+
+pub(crate) fn bound(b: Bound, low: &mut u64, high: &mut u64) -> Answer
+    ensures answer { λ r. ⌜ r ≡ rules.flatHalves (ofBound b) ⌝ }
+    ensures lower { λ _. ⌜ now (low .exit) ≡ rules.lowAfter (ofBound b) (now (low .entry)) ⌝ }
+    ensures upper { λ _. ⌜ now (high .exit) ≡ rules.highAfter (ofBound b) (now (high .entry)) ⌝ }
+{
+    match b {
+        Bound::Value { low: l, high: h } => {
+            *low = l;
+            *high = h;
+            Answer {
+                refusal: 0,
+                value: 0,
+            }
+        }
+        Bound::Refused { number, place } => Answer {
+            refusal: number,
+            value: place,
+        },
+    }
+}

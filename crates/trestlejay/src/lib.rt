@@ -1,0 +1,31 @@
+// The C face: each public question as an exported function, as include/trestlejay.h declares it.
+mod flat;
+mod measures;
+mod properties;
+mod starts;
+mod uses;
+
+pub use flat::Answer;
+pub use measures::tj_known_size_in_bytes_as_word_member;
+pub use measures::tj_max_u128;
+pub use measures::tj_min_i128;
+pub use measures::tj_pointer_depth;
+pub use measures::tj_stored_size;
+pub use properties::tj_check;
+pub use properties::tj_is_bitfield;
+pub use properties::tj_is_integral;
+pub use properties::tj_is_signed;
+pub use properties::tj_is_slice_pointer;
+pub use properties::tj_is_void;
+pub use properties::tj_is_wellformed;
+pub use starts::tj_fully_dereferenced;
+pub use starts::tj_get_element_type;
+pub use starts::tj_get_pointee_type;
+pub use starts::tj_get_viewee_type;
+pub use uses::tj_can_be_constant;
+pub use uses::tj_can_be_parameter;
+pub use uses::tj_can_be_returned;
+pub use uses::tj_can_be_sized;
+pub use uses::tj_can_be_struct_member;
+pub use uses::tj_can_be_variable;
+pub use uses::tj_can_be_word_member;

@@ -1,0 +1,58 @@
+use crate::flat::Answer;
+use crate::flat::checked;
+use crate::flat::verdict;
+use forms::Property;
+ghost use mathlib.Core.Path.{_≡_};
+ghost use Rattle.layers.specs.Check.{checkOf};
+ghost use Rattle.forms.specs.Formed.{wellFormedAnswer};
+ghost use Rattle.forms.specs.Properties.{propertyAnswer};
+ghost use Rattle.trestlejay.specs.Flat.{flat};
+
+#[no_mangle]
+pub extern "C" fn tj_check(t: &[u64]) -> Answer
+    ensures { λ r. ⌜ r ≡ flat (checkOf (now (t .entry))) ⌝ }
+{
+    checked(layers::check_type(t))
+}
+
+#[no_mangle]
+pub extern "C" fn tj_is_wellformed(t: &[u64]) -> Answer
+    ensures { λ r. ⌜ r ≡ flat (wellFormedAnswer (now (t .entry))) ⌝ }
+{
+    verdict(forms::wellformed(t))
+}
+
+#[no_mangle]
+pub extern "C" fn tj_is_void(t: &[u64]) -> Answer
+    ensures { λ r. ⌜ r ≡ flat (propertyAnswer Property.Void (now (t .entry))) ⌝ }
+{
+    verdict(forms::has(Property::Void, t))
+}
+
+#[no_mangle]
+pub extern "C" fn tj_is_integral(t: &[u64]) -> Answer
+    ensures { λ r. ⌜ r ≡ flat (propertyAnswer Property.Integral (now (t .entry))) ⌝ }
+{
+    verdict(forms::has(Property::Integral, t))
+}
+
+#[no_mangle]
+pub extern "C" fn tj_is_signed(t: &[u64]) -> Answer
+    ensures { λ r. ⌜ r ≡ flat (propertyAnswer Property.Signed (now (t .entry))) ⌝ }
+{
+    verdict(forms::has(Property::Signed, t))
+}
+
+#[no_mangle]
+pub extern "C" fn tj_is_bitfield(t: &[u64]) -> Answer
+    ensures { λ r. ⌜ r ≡ flat (propertyAnswer Property.Bitfield (now (t .entry))) ⌝ }
+{
+    verdict(forms::has(Property::Bitfield, t))
+}
+
+#[no_mangle]
+pub extern "C" fn tj_is_slice_pointer(t: &[u64]) -> Answer
+    ensures { λ r. ⌜ r ≡ flat (propertyAnswer Property.SlicePointer (now (t .entry))) ⌝ }
+{
+    verdict(forms::has(Property::SlicePointer, t))
+}
