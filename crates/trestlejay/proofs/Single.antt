@@ -1,0 +1,116 @@
+-- Each exported contract allows one answer, and one value behind each pointer that was lent.
+-- Assumes nothing.
+use mathlib.Core.Path.{_≡_, sym, _∙_}
+use contract.Lifetimes.{Lfts}
+use denote.Ref.{now}
+use denote.Triple.Clauses.{AtExit}
+use borrow.Fn.Kinds.{Out, Dens, resT, endedOf}
+use Rattle.layers.proofs.Single.{Single}
+use Rattle.trestlejay.proofs.properties.tj_check.Kinds as of-type
+use Rattle.trestlejay.proofs.measures.tj_stored_size.Kinds as with-size
+use Rattle.trestlejay.proofs.measures.tj_min_i128.Kinds as with-halves
+use Rattle.trestlejay.proofs.properties.tj_check.Reads as tj-check
+use Rattle.trestlejay.proofs.properties.tj_is_wellformed.Reads as tj-is-wellformed
+use Rattle.trestlejay.proofs.properties.tj_is_void.Reads as tj-is-void
+use Rattle.trestlejay.proofs.properties.tj_is_integral.Reads as tj-is-integral
+use Rattle.trestlejay.proofs.properties.tj_is_signed.Reads as tj-is-signed
+use Rattle.trestlejay.proofs.properties.tj_is_bitfield.Reads as tj-is-bitfield
+use Rattle.trestlejay.proofs.properties.tj_is_slice_pointer.Reads as tj-is-slice-pointer
+use Rattle.trestlejay.proofs.uses.tj_can_be_sized.Reads as tj-can-be-sized
+use Rattle.trestlejay.proofs.uses.tj_can_be_struct_member.Reads as tj-can-be-struct-member
+use Rattle.trestlejay.proofs.uses.tj_can_be_word_member.Reads as tj-can-be-word-member
+use Rattle.trestlejay.proofs.uses.tj_can_be_constant.Reads as tj-can-be-constant
+use Rattle.trestlejay.proofs.uses.tj_can_be_variable.Reads as tj-can-be-variable
+use Rattle.trestlejay.proofs.uses.tj_can_be_parameter.Reads as tj-can-be-parameter
+use Rattle.trestlejay.proofs.uses.tj_can_be_returned.Reads as tj-can-be-returned
+use Rattle.trestlejay.proofs.starts.tj_get_element_type.Reads as tj-get-element-type
+use Rattle.trestlejay.proofs.starts.tj_get_pointee_type.Reads as tj-get-pointee-type
+use Rattle.trestlejay.proofs.starts.tj_get_viewee_type.Reads as tj-get-viewee-type
+use Rattle.trestlejay.proofs.starts.tj_fully_dereferenced.Reads as tj-fully-dereferenced
+use Rattle.trestlejay.proofs.measures.tj_pointer_depth.Reads as tj-pointer-depth
+use Rattle.trestlejay.proofs.measures.tj_known_size_in_bytes_as_word_member.Reads as tj-known-size-in-bytes-as-word-member
+use Rattle.trestlejay.proofs.measures.tj_stored_size.Reads as tj-stored-size
+use Rattle.trestlejay.proofs.measures.tj_min_i128.Reads as tj-min-i128
+use Rattle.trestlejay.proofs.measures.tj_max_u128.Reads as tj-max-u128
+
+abbrev SingleOfType : Out 1 of-type.ps of-type.r → Type 0
+SingleOfType Q = Single 1 of-type.ps of-type.r Q
+
+pub tj-check-single : SingleOfType tj-check.Post
+tj-check-single κs a x y s t p q = p ∙ sym q
+
+pub tj-is-wellformed-single : SingleOfType tj-is-wellformed.Post
+tj-is-wellformed-single κs a x y s t p q = p ∙ sym q
+
+pub tj-is-void-single : SingleOfType tj-is-void.Post
+tj-is-void-single κs a x y s t p q = p ∙ sym q
+
+pub tj-is-integral-single : SingleOfType tj-is-integral.Post
+tj-is-integral-single κs a x y s t p q = p ∙ sym q
+
+pub tj-is-signed-single : SingleOfType tj-is-signed.Post
+tj-is-signed-single κs a x y s t p q = p ∙ sym q
+
+pub tj-is-bitfield-single : SingleOfType tj-is-bitfield.Post
+tj-is-bitfield-single κs a x y s t p q = p ∙ sym q
+
+pub tj-is-slice-pointer-single : SingleOfType tj-is-slice-pointer.Post
+tj-is-slice-pointer-single κs a x y s t p q = p ∙ sym q
+
+pub tj-can-be-sized-single : SingleOfType tj-can-be-sized.Post
+tj-can-be-sized-single κs a x y s t p q = p ∙ sym q
+
+pub tj-can-be-struct-member-single : SingleOfType tj-can-be-struct-member.Post
+tj-can-be-struct-member-single κs a x y s t p q = p ∙ sym q
+
+pub tj-can-be-word-member-single : SingleOfType tj-can-be-word-member.Post
+tj-can-be-word-member-single κs a x y s t p q = p ∙ sym q
+
+pub tj-can-be-constant-single : SingleOfType tj-can-be-constant.Post
+tj-can-be-constant-single κs a x y s t p q = p ∙ sym q
+
+pub tj-can-be-variable-single : SingleOfType tj-can-be-variable.Post
+tj-can-be-variable-single κs a x y s t p q = p ∙ sym q
+
+pub tj-can-be-parameter-single : SingleOfType tj-can-be-parameter.Post
+tj-can-be-parameter-single κs a x y s t p q = p ∙ sym q
+
+pub tj-can-be-returned-single : SingleOfType tj-can-be-returned.Post
+tj-can-be-returned-single κs a x y s t p q = p ∙ sym q
+
+pub tj-get-element-type-single : SingleOfType tj-get-element-type.Post
+tj-get-element-type-single κs a x y s t p q = p ∙ sym q
+
+pub tj-get-pointee-type-single : SingleOfType tj-get-pointee-type.Post
+tj-get-pointee-type-single κs a x y s t p q = p ∙ sym q
+
+pub tj-get-viewee-type-single : SingleOfType tj-get-viewee-type.Post
+tj-get-viewee-type-single κs a x y s t p q = p ∙ sym q
+
+pub tj-fully-dereferenced-single : SingleOfType tj-fully-dereferenced.Post
+tj-fully-dereferenced-single κs a x y s t p q = p ∙ sym q
+
+pub tj-pointer-depth-single : SingleOfType tj-pointer-depth.Post
+tj-pointer-depth-single κs a x y s t p q = p ∙ sym q
+
+abbrev SingleWithSize : Out 2 with-size.ps with-size.r → Type 0
+SingleWithSize Q =
+    (κs : Lfts 2) (a : Dens κs with-size.ps) (x y : resT with-size.r κs .Denot) (s t : AtExit (endedOf 2 with-size.ps with-size.r) κs) →
+    Q κs a x s → Q κs a y t → (x ≡ y) × (now (s .1 .0) ≡ now (t .1 .0))
+
+pub tj-known-size-in-bytes-as-word-member-single : SingleWithSize tj-known-size-in-bytes-as-word-member.Post
+tj-known-size-in-bytes-as-word-member-single κs a x y s t p q = (p .0 ∙ sym (q .0), p .1 ∙ sym (q .1))
+
+pub tj-stored-size-single : SingleWithSize tj-stored-size.Post
+tj-stored-size-single κs a x y s t p q = (p .0 ∙ sym (q .0), p .1 ∙ sym (q .1))
+
+abbrev SingleWithHalves : Out 3 with-halves.ps with-halves.r → Type 0
+SingleWithHalves Q =
+    (κs : Lfts 3) (a : Dens κs with-halves.ps) (x y : resT with-halves.r κs .Denot) (s t : AtExit (endedOf 3 with-halves.ps with-halves.r) κs) →
+    Q κs a x s → Q κs a y t → (x ≡ y) × ((now (s .1 .0) ≡ now (t .1 .0)) × (now (s .1 .1 .0) ≡ now (t .1 .1 .0)))
+
+pub tj-min-i128-single : SingleWithHalves tj-min-i128.Post
+tj-min-i128-single κs a x y s t p q = (p .0 ∙ sym (q .0), (p .1 .0 ∙ sym (q .1 .0), p .1 .1 ∙ sym (q .1 .1)))
+
+pub tj-max-u128-single : SingleWithHalves tj-max-u128.Post
+tj-max-u128-single κs a x y s t p q = (p .0 ∙ sym (q .0), (p .1 .0 ∙ sym (q .1 .0), p .1 .1 ∙ sym (q .1 .1)))
