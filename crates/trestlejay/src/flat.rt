@@ -17,18 +17,27 @@ pub struct Answer {
     pub value: u64,
 }
 
+fn accepted(value: u64) -> Answer
+    ensures { λ r. ⌜ r ≡ rules.accepted value ⌝ }
+{
+    Answer { refusal: 0, value }
+}
+
+fn refused(number: u64, place: u64) -> Answer
+    ensures { λ r. ⌜ r ≡ rules.notAccepted number place ⌝ }
+{
+    Answer {
+        refusal: number,
+        value: place,
+    }
+}
+
 pub(crate) fn checked(c: Checked) -> Answer
     ensures { λ r. ⌜ r ≡ rules.flat (ofChecked c) ⌝ }
 {
     match c {
-        Checked::Good(n) => Answer {
-            refusal: 0,
-            value: n,
-        },
-        Checked::Refused { number, place } => Answer {
-            refusal: number,
-            value: place,
-        },
+        Checked::Good(n) => accepted(n),
+        Checked::Refused { number, place } => refused(number, place),
     }
 }
 
@@ -36,18 +45,9 @@ pub(crate) fn verdict(v: Verdict) -> Answer
     ensures { λ r. ⌜ r ≡ rules.flat (ofVerdict v) ⌝ }
 {
     match v {
-        Verdict::Yes => Answer {
-            refusal: 0,
-            value: 1,
-        },
-        Verdict::No => Answer {
-            refusal: 0,
-            value: 0,
-        },
-        Verdict::Refused { number, place } => Answer {
-            refusal: number,
-            value: place,
-        },
+        Verdict::Yes => accepted(1),
+        Verdict::No => accepted(0),
+        Verdict::Refused { number, place } => refused(number, place),
     }
 }
 
@@ -55,18 +55,9 @@ pub(crate) fn start(s: Start) -> Answer
     ensures { λ r. ⌜ r ≡ rules.flat (ofStart s) ⌝ }
 {
     match s {
-        Start::At(n) => Answer {
-            refusal: 0,
-            value: n,
-        },
-        Start::Nothing => Answer {
-            refusal: 0,
-            value: 0,
-        },
-        Start::Refused { number, place } => Answer {
-            refusal: number,
-            value: place,
-        },
+        Start::At(n) => accepted(n),
+        Start::Nothing => accepted(0),
+        Start::Refused { number, place } => refused(number, place),
     }
 }
 
@@ -74,14 +65,8 @@ pub(crate) fn count(c: Count) -> Answer
     ensures { λ r. ⌜ r ≡ rules.flat (ofCount c) ⌝ }
 {
     match c {
-        Count::Of(n) => Answer {
-            refusal: 0,
-            value: n,
-        },
-        Count::Refused { number, place } => Answer {
-            refusal: number,
-            value: place,
-        },
+        Count::Of(n) => accepted(n),
+        Count::Refused { number, place } => refused(number, place),
     }
 }
 
@@ -93,19 +78,10 @@ pub(crate) fn size(s: Size, out: &mut u64) -> Answer
     match s {
         Size::Bytes(n) => {
             *out = n;
-            Answer {
-                refusal: 0,
-                value: 1,
-            }
+            accepted(1)
         }
-        Size::Nothing => Answer {
-            refusal: 0,
-            value: 0,
-        },
-        Size::Refused { number, place } => Answer {
-            refusal: number,
-            value: place,
-        },
+        Size::Nothing => accepted(0),
+        Size::Refused { number, place } => refused(number, place),
     }
 }
 
@@ -118,14 +94,8 @@ pub(crate) fn bound(b: Bound, low: &mut u64, high: &mut u64) -> Answer
         Bound::Value { low: l, high: h } => {
             *low = l;
             *high = h;
-            Answer {
-                refusal: 0,
-                value: 0,
-            }
+            accepted(0)
         }
-        Bound::Refused { number, place } => Answer {
-            refusal: number,
-            value: place,
-        },
+        Bound::Refused { number, place } => refused(number, place),
     }
 }

@@ -9,6 +9,8 @@ bound-spec =
     tie.close
     (tie.spec
     (λ c. search needs)
+    (λ c κs. search needs)
     (λ c. search needs)
+    (λ c κs. search needs)
     (λ c. ((cc), ((cc), (cc))))
     (λ c. ((cc), ((cc), (cc)))))

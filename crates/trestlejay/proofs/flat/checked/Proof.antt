@@ -9,6 +9,8 @@ checked-spec =
     tie.close
     (tie.spec
     (λ c. search needs)
+    (λ c κs. search needs)
     (λ c. search needs)
+    (λ c κs. search needs)
     (λ c. cc)
     (λ c. cc))

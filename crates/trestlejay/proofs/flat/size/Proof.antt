@@ -9,8 +9,11 @@ size-spec =
     tie.close
     (tie.spec
     (λ c. search needs)
+    (λ c κs. search needs)
     (λ c. search needs)
+    (λ c κs. search needs)
     (λ c. search needs)
+    (λ c κs. search needs)
     (λ c. ((cc), (cc)))
     (λ c. ((cc), (cc)))
     (λ c. ((cc), (cc))))

@@ -9,8 +9,11 @@ verdict-spec =
     tie.close
     (tie.spec
     (λ c. search needs)
+    (λ c κs. search needs)
     (λ c. search needs)
+    (λ c κs. search needs)
     (λ c. search needs)
+    (λ c κs. search needs)
     (λ c. cc)
     (λ c. cc)
     (λ c. cc))

@@ -1,0 +1,40 @@
+/* A host asks the proved rules a few questions.
+ *
+ *   rt staticlib trestlejay
+ *   cc -I include examples/host.c target/staticlib/libtrestlejay.a -o host && ./host
+ */
+#include "trestlejay.h"
+#include <inttypes.h>
+#include <stdio.h>
+
+#define WORDS(t) (t), sizeof(t) / sizeof *(t)
+
+static void say(const char *question, tj_answer a)
+{
+    if (a.refusal)
+        printf("%s: refused %" PRIu64 " at %" PRIu64 "\n", question, a.refusal, a.value);
+    else
+        printf("%s: %" PRIu64 "\n", question, a.value);
+}
+
+int main(void)
+{
+    /* Slice of Char8; Array of 3 Char8; View of Pointer to Int32; a leaf early. */
+    const uint64_t slice[] = {16, 0, 0, 12, 0, 0};
+    const uint64_t array[] = {14, 0, 3, 12, 0, 0};
+    const uint64_t view[] = {24, 0, 0, 23, 0, 0, 3, 0, 0};
+    const uint64_t early[] = {23, 0, 0, 3, 0, 0, 3, 0, 0};
+    uint64_t size = 7, low = 7, high = 7;
+
+    say("layers of view", tj_check(WORDS(view)));
+    say("layers of early", tj_check(WORDS(early)));
+    say("array can be a parameter", tj_can_be_parameter(WORDS(array)));
+    say("slice can be a parameter", tj_can_be_parameter(WORDS(slice)));
+    say("view, fully dereferenced, starts at word", tj_fully_dereferenced(WORDS(view)));
+    say("pointer depth of view", tj_pointer_depth(WORDS(view)));
+    say("array has a stored size", tj_stored_size(WORDS(array), &size));
+    printf("which is %" PRIu64 "\n", size);
+    say("highest value of the leaf of view", tj_max_u128(view + 6, 3, &low, &high));
+    printf("which is %" PRIu64 " * 2^64 + %" PRIu64 "\n", high, low);
+    return 0;
+}
