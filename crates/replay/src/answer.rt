@@ -1,0 +1,86 @@
+use trestlejay::Answer;
+
+// What was answered, with what was written behind the pointers that were lent.
+pub struct Got {
+    pub refusal: u64,
+    pub value: u64,
+    pub first: u64,
+    pub second: u64,
+}
+
+// What stands behind the pointers before the call.
+pub const BEFORE: u64 = 7777;
+
+fn plain(a: Answer) -> Got {
+    Got {
+        refusal: a.refusal,
+        value: a.value,
+        first: BEFORE,
+        second: BEFORE,
+    }
+}
+
+fn property(f: u64, t: &[u64]) -> Answer {
+    match f {
+        0 => trestlejay::tj_check(t),
+        1 => trestlejay::tj_is_wellformed(t),
+        2 => trestlejay::tj_is_void(t),
+        3 => trestlejay::tj_is_integral(t),
+        4 => trestlejay::tj_is_signed(t),
+        5 => trestlejay::tj_is_bitfield(t),
+        _ => trestlejay::tj_is_slice_pointer(t),
+    }
+}
+
+fn role(f: u64, t: &[u64]) -> Answer {
+    match f {
+        7 => trestlejay::tj_can_be_sized(t),
+        8 => trestlejay::tj_can_be_struct_member(t),
+        9 => trestlejay::tj_can_be_word_member(t),
+        10 => trestlejay::tj_can_be_constant(t),
+        11 => trestlejay::tj_can_be_variable(t),
+        12 => trestlejay::tj_can_be_parameter(t),
+        _ => trestlejay::tj_can_be_returned(t),
+    }
+}
+
+fn part(f: u64, t: &[u64]) -> Answer {
+    match f {
+        14 => trestlejay::tj_get_element_type(t),
+        15 => trestlejay::tj_get_pointee_type(t),
+        16 => trestlejay::tj_get_viewee_type(t),
+        17 => trestlejay::tj_fully_dereferenced(t),
+        _ => trestlejay::tj_pointer_depth(t),
+    }
+}
+
+fn measure(f: u64, t: &[u64]) -> Got {
+    let mut first = BEFORE;
+    let mut second = BEFORE;
+    let a = match f {
+        19 => trestlejay::tj_known_size_in_bytes_as_word_member(t, &mut first),
+        20 => trestlejay::tj_stored_size(t, &mut first),
+        21 => trestlejay::tj_min_i128(t, &mut first, &mut second),
+        _ => trestlejay::tj_max_u128(t, &mut first, &mut second),
+    };
+    Got {
+        refusal: a.refusal,
+        value: a.value,
+        first,
+        second,
+    }
+}
+
+// The answer to a question by the function's number, in the header's order.
+pub fn ask(f: u64, a: &[u64], b: &[u64]) -> Got {
+    if f < 7 {
+        return plain(property(f, a));
+    }
+    if f < 14 {
+        return plain(role(f, a));
+    }
+    if f < 19 {
+        return plain(part(f, a));
+    }
+    measure(f, a)
+}
