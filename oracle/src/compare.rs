@@ -133,7 +133,7 @@ fn counts(tallies: &mut Tallies, random: &mut Random) {
 }
 
 fn random(tallies: &mut Tallies, scale: u64, random: &mut Random) {
-    for _ in 0..scale * 20_000 {
+    for _ in 0..scale * 50_000 {
         let one = good_type(random, 16);
         tallies.ask_one(&words(&one));
         tallies.ask_one(&damaged(random, &one));

@@ -224,8 +224,62 @@ fn change(random: &mut Random, all: &mut Vec<Layer>) {
     }
 }
 
-/// Two close relatives; the fewest layers' worth of random choices where `most` is small.
+/// What this type coerces into, by value or by address, where its outer kind allows it.
+fn coerced(random: &mut Random, layers: &[Layer]) -> Vec<Layer> {
+    let shapes: &[&[u64]] = match layers[0][0] {
+        ARRAY | NAMED => &[
+            &[SLICE],
+            &[SLICE_POINTER],
+            &[VIEW, ENDLESS],
+            &[POINTER, ENDLESS],
+        ],
+        SLICE => &[&[VIEW, ENDLESS]],
+        SLICE_POINTER => &[&[POINTER, ENDLESS]],
+        STRUCT => return [&[[VIEW, 0, 0]], layers].concat(),
+        _ => return layers.to_vec(),
+    };
+    let mut all: Vec<Layer> = random
+        .pick(shapes)
+        .iter()
+        .map(|kind| [*kind, 0, 0])
+        .collect();
+    all.extend(&layers[1..]);
+    all
+}
+
+/// What this type is a concretization of: an Arraylike without, and for some arrays within.
+fn likened(random: &mut Random, layers: &[Layer]) -> Vec<Layer> {
+    let shape: &[u64] = match layers[0][0] {
+        ARRAY | NAMED | SLICE | ENDLESS => &[ARRAYLIKE],
+        SLICE_POINTER if random.once_in(2) => &[ARRAYLIKE],
+        SLICE_POINTER => &[POINTER, ARRAYLIKE],
+        _ => &[],
+    };
+    let mut all: Vec<Layer> = shape.iter().map(|kind| [*kind, 0, 0]).collect();
+    let skipped = usize::from(!shape.is_empty());
+    for layer in &layers[skipped..] {
+        all.push(match layer[0] {
+            ARRAY | NAMED | ENDLESS if random.once_in(2) => [ARRAYLIKE, 0, 0],
+            STRUCT | WORD if random.once_in(4) => [UNRESOLVED, layer[1], 1],
+            _ => *layer,
+        });
+    }
+    all
+}
+
+/// Two types that are often related. `most` limits the layers of what they have in common.
 pub fn pair(random: &mut Random, most: usize) -> (Vec<Layer>, Vec<Layer>) {
     let common = good_type(random, most);
-    (relative(random, &common), relative(random, &common))
+    let (mut a, mut b) = match random.below(4) {
+        0 => (common.clone(), coerced(random, &common)),
+        1 => (common.clone(), likened(random, &common)),
+        _ => return (relative(random, &common), relative(random, &common)),
+    };
+    for side in [&mut a, &mut b] {
+        if random.once_in(3) {
+            change(random, side);
+        }
+        side.drain(..side.len().saturating_sub(16));
+    }
+    (a, b)
 }

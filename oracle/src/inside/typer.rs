@@ -90,7 +90,11 @@ impl Table {
     }
 
     /// A type, a poison mark, or nothing.
-    pub fn put(&mut self, name: &Identifier, put: Option<Result<ValueType, u64>>) -> Result<(), u64> {
+    pub fn put(
+        &mut self,
+        name: &Identifier,
+        put: Option<Result<ValueType, u64>>,
+    ) -> Result<(), u64> {
         let put = put.map(|value| value.map_err(poison));
         match caught(|| self.0.put_symbol(name, put)) {
             Ok(Ok(())) => Ok(()),
