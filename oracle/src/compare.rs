@@ -5,7 +5,7 @@ use crate::face;
 use crate::random::Random;
 use crate::small::*;
 use crate::types::*;
-use crate::words::{POINTER, VIEW};
+use crate::words::{BOOL, CHAR8, POINTER, UINT8, VIEW};
 
 #[derive(Default)]
 struct Tally {
@@ -71,6 +71,7 @@ impl Tallies {
 pub fn compare(scale: u64, seed: u64) -> (u64, u64) {
     let mut tallies = Tallies((0..QUESTIONS.len()).map(|_| Tally::default()).collect());
     small(&mut tallies);
+    long(&mut tallies);
     counts(&mut tallies, &mut Random::new(seed));
     random(&mut tallies, scale, &mut Random::new(seed));
     report(&tallies.0)
@@ -100,6 +101,30 @@ fn small(tallies: &mut Tallies) {
     for a in &bad {
         for b in bad.iter().step_by(7) {
             tallies.ask_two(a, b);
+        }
+    }
+}
+
+/// Every plain chain up to 16 layers, and pairs of them that differ in kind, length or one layer.
+fn long(tallies: &mut Tallies) {
+    for chain in turned_chains() {
+        tallies.ask_one(&chain);
+    }
+    let good = [BOOL, 0, 0];
+    for chain in spoiled_chains() {
+        tallies.ask_one(&chain);
+        tallies.ask_two(&chain, &good);
+        tallies.ask_two(&good, &chain);
+    }
+    for (a, b) in near_pairs() {
+        tallies.ask_two(&a, &b);
+        tallies.ask_two(&b, &a);
+    }
+    let right = chains([UINT8, 0, 0]);
+    for a in chains([CHAR8, 0, 0]) {
+        tallies.ask_one(&a);
+        for b in &right {
+            tallies.ask_two(&a, b);
         }
     }
 }
