@@ -1,0 +1,206 @@
+//! The differential runs: the proved library against the original.
+
+use crate::ask::{answer, Answer, QUESTIONS, RELATIONS};
+use crate::face;
+use crate::random::Random;
+use crate::small::*;
+use crate::types::*;
+use crate::words::{BOOL, CHAR8, POINTER, UINT8, VIEW};
+
+#[derive(Default)]
+struct Tally {
+    cases: u64,
+    yes: u64,
+    refusals: u64,
+    differences: u64,
+    smallest: Option<Difference>,
+}
+
+struct Difference {
+    a: Vec<u64>,
+    b: Vec<u64>,
+    expected: Answer,
+    found: Result<Answer, String>,
+}
+
+struct Tallies(Vec<Tally>);
+
+impl Tallies {
+    fn ask(&mut self, question: usize, a: &[u64], b: &[u64]) {
+        let expected = answer(question, a, b);
+        let found = face::answer(question, a, b);
+        let tally = &mut self.0[question];
+        tally.cases += 1;
+        if expected.refusal != 0 {
+            tally.refusals += 1;
+        } else if expected.value != 0 || !expected.written.is_empty() {
+            tally.yes += 1;
+        }
+        if found.as_ref() != Ok(&expected) {
+            tally.differences += 1;
+            let size = |d: &Difference| d.a.len() + d.b.len();
+            if tally
+                .smallest
+                .as_ref()
+                .map_or(true, |d| a.len() + b.len() < size(d))
+            {
+                tally.smallest = Some(Difference {
+                    a: a.to_vec(),
+                    b: b.to_vec(),
+                    expected,
+                    found,
+                });
+            }
+        }
+    }
+
+    fn ask_one(&mut self, a: &[u64]) {
+        for question in 0..RELATIONS {
+            self.ask(question, a, &[]);
+        }
+    }
+
+    fn ask_two(&mut self, a: &[u64], b: &[u64]) {
+        for question in RELATIONS..QUESTIONS.len() {
+            self.ask(question, a, b);
+        }
+    }
+}
+
+/// How many cases passed and how many failed.
+pub fn compare(scale: u64, seed: u64) -> (u64, u64) {
+    let mut tallies = Tallies((0..QUESTIONS.len()).map(|_| Tally::default()).collect());
+    small(&mut tallies);
+    long(&mut tallies);
+    counts(&mut tallies, &mut Random::new(seed));
+    random(&mut tallies, scale, &mut Random::new(seed));
+    report(&tallies.0)
+}
+
+/// Every small type and every pair of small types.
+fn small(tallies: &mut Tallies) {
+    let layers = all_layers();
+    for outer in &layers {
+        tallies.ask_one(outer);
+        for inner in &layers {
+            tallies.ask_one(&words(&[*outer, *inner]));
+        }
+    }
+    for run in runs_of_three() {
+        tallies.ask_one(&run);
+    }
+    for types in [small_types(&[0, 1], &[0, 1, 3]), types_of_three()] {
+        for a in &types {
+            for b in &types {
+                tallies.ask_two(a, b);
+            }
+        }
+    }
+    // Both sides bad: the left one is judged first.
+    let bad: Vec<Vec<u64>> = runs_of_three().into_iter().step_by(97).collect();
+    for a in &bad {
+        for b in bad.iter().step_by(7) {
+            tallies.ask_two(a, b);
+        }
+    }
+}
+
+/// Every plain chain up to 16 layers, and pairs of them that differ in kind, length or one layer.
+fn long(tallies: &mut Tallies) {
+    for chain in turned_chains() {
+        tallies.ask_one(&chain);
+    }
+    let good = [BOOL, 0, 0];
+    for chain in spoiled_chains() {
+        tallies.ask_one(&chain);
+        tallies.ask_two(&chain, &good);
+        tallies.ask_two(&good, &chain);
+    }
+    for (a, b) in near_pairs() {
+        tallies.ask_two(&a, &b);
+        tallies.ask_two(&b, &a);
+    }
+    let right = chains([UINT8, 0, 0]);
+    for a in chains([CHAR8, 0, 0]) {
+        tallies.ask_one(&a);
+        for b in &right {
+            tallies.ask_two(&a, b);
+        }
+    }
+}
+
+/// Every count of words from 0 to 60, on either side.
+fn counts(tallies: &mut Tallies, random: &mut Random) {
+    for count in 0..=60 {
+        let mut chain: Vec<u64> = [[POINTER, 0, 0], [VIEW, 0, 0]].concat().repeat(10);
+        chain.truncate(count);
+        let mut closed = chain.clone();
+        if count >= 3 {
+            closed[count - 3..].copy_from_slice(&[6, 0, 0]);
+        }
+        let noise = (0..count).map(|_| random.next()).collect();
+        let small = (0..count).map(|_| random.below(27) as u64).collect();
+        for words in [
+            chain,
+            closed,
+            vec![0; count],
+            vec![u64::MAX; count],
+            noise,
+            small,
+        ] {
+            tallies.ask_one(&words);
+            for other in [&words[..], &[6, 0, 0], &[24, 0, 0], &[]] {
+                tallies.ask_two(&words, other);
+                tallies.ask_two(other, &words);
+            }
+        }
+    }
+}
+
+fn random(tallies: &mut Tallies, scale: u64, random: &mut Random) {
+    for _ in 0..scale * 50_000 {
+        let one = good_type(random, 16);
+        tallies.ask_one(&words(&one));
+        tallies.ask_one(&damaged(random, &one));
+
+        let (a, b) = pair(random, 16);
+        tallies.ask_two(&words(&a), &words(&b));
+        if random.once_in(4) {
+            let (bad_a, bad_b) = (damaged(random, &a), damaged(random, &b));
+            tallies.ask_two(&bad_a, &words(&b));
+            tallies.ask_two(&words(&a), &bad_b);
+            tallies.ask_two(&bad_a, &bad_b);
+        }
+    }
+}
+
+fn report(tallies: &[Tally]) -> (u64, u64) {
+    println!(
+        "{:36}{:>10}{:>10}{:>10}{:>12}",
+        "", "cases", "yes", "refusals", "differences"
+    );
+    for ((name, _), tally) in QUESTIONS.iter().zip(tallies) {
+        println!(
+            "{name:36}{:>10}{:>10}{:>10}{:>12}",
+            tally.cases, tally.yes, tally.refusals, tally.differences
+        );
+    }
+    for ((name, _), tally) in QUESTIONS.iter().zip(tallies) {
+        if let Some(d) = &tally.smallest {
+            println!("\n{name}, the smallest difference:");
+            println!("  left      {:?}", d.a);
+            if !d.b.is_empty() {
+                println!("  right     {:?}", d.b);
+            }
+            println!("  the Rust  {:?}", d.expected);
+            match &d.found {
+                Ok(found) => println!("  ours      {found:?}"),
+                Err(harm) => println!("  ours      {harm}"),
+            }
+        }
+    }
+    let cases: u64 = tallies.iter().map(|tally| tally.cases).sum();
+    let failed: u64 = tallies.iter().map(|tally| tally.differences).sum();
+    println!("\nCases, each one question about given words:");
+    (cases - failed, failed)
+}

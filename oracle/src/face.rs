@@ -1,0 +1,138 @@
+//! The proved library's C face: include/trestlejay.h, sections Types and Relations, in its order.
+
+use crate::ask::Answer;
+
+#[repr(C)]
+struct Raw {
+    refusal: u64,
+    value: u64,
+}
+
+extern "C" {
+    fn tj_check(t: *const u64, n: usize) -> Raw;
+    fn tj_is_wellformed(t: *const u64, n: usize) -> Raw;
+    fn tj_is_void(t: *const u64, n: usize) -> Raw;
+    fn tj_is_integral(t: *const u64, n: usize) -> Raw;
+    fn tj_is_signed(t: *const u64, n: usize) -> Raw;
+    fn tj_is_bitfield(t: *const u64, n: usize) -> Raw;
+    fn tj_is_slice_pointer(t: *const u64, n: usize) -> Raw;
+    fn tj_can_be_sized(t: *const u64, n: usize) -> Raw;
+    fn tj_can_be_struct_member(t: *const u64, n: usize) -> Raw;
+    fn tj_can_be_word_member(t: *const u64, n: usize) -> Raw;
+    fn tj_can_be_constant(t: *const u64, n: usize) -> Raw;
+    fn tj_can_be_variable(t: *const u64, n: usize) -> Raw;
+    fn tj_can_be_parameter(t: *const u64, n: usize) -> Raw;
+    fn tj_can_be_returned(t: *const u64, n: usize) -> Raw;
+    fn tj_get_element_type(t: *const u64, n: usize) -> Raw;
+    fn tj_get_pointee_type(t: *const u64, n: usize) -> Raw;
+    fn tj_get_viewee_type(t: *const u64, n: usize) -> Raw;
+    fn tj_fully_dereferenced(t: *const u64, n: usize) -> Raw;
+    fn tj_pointer_depth(t: *const u64, n: usize) -> Raw;
+
+    fn tj_known_size_in_bytes_as_word_member(t: *const u64, n: usize, size: *mut u64) -> Raw;
+    fn tj_stored_size(t: *const u64, n: usize, size: *mut u64) -> Raw;
+    fn tj_min_i128(t: *const u64, n: usize, low: *mut u64, high: *mut u64) -> Raw;
+    fn tj_max_u128(t: *const u64, n: usize, low: *mut u64, high: *mut u64) -> Raw;
+
+    fn tj_identical(a: *const u64, na: usize, b: *const u64, nb: usize) -> Raw;
+    fn tj_equals(a: *const u64, na: usize, b: *const u64, nb: usize) -> Raw;
+    fn tj_is_like(a: *const u64, na: usize, b: *const u64, nb: usize) -> Raw;
+    fn tj_can_be_declared_as(a: *const u64, na: usize, b: *const u64, nb: usize) -> Raw;
+    fn tj_can_be_concretization_of(a: *const u64, na: usize, b: *const u64, nb: usize) -> Raw;
+    fn tj_can_coerce_into(a: *const u64, na: usize, b: *const u64, nb: usize) -> Raw;
+    fn tj_can_coerce_address_into(a: *const u64, na: usize, b: *const u64, nb: usize) -> Raw;
+    fn tj_can_autoderef_into(a: *const u64, na: usize, b: *const u64, nb: usize) -> Raw;
+    fn tj_can_subautoderef_into(a: *const u64, na: usize, b: *const u64, nb: usize) -> Raw;
+}
+
+enum Entry {
+    One(unsafe extern "C" fn(*const u64, usize) -> Raw),
+    Size(unsafe extern "C" fn(*const u64, usize, *mut u64) -> Raw),
+    Halves(unsafe extern "C" fn(*const u64, usize, *mut u64, *mut u64) -> Raw),
+    Two(unsafe extern "C" fn(*const u64, usize, *const u64, usize) -> Raw),
+}
+
+use Entry::{Halves, One, Size, Two};
+
+static ENTRIES: [Entry; 32] = [
+    One(tj_check),
+    One(tj_is_wellformed),
+    One(tj_is_void),
+    One(tj_is_integral),
+    One(tj_is_signed),
+    One(tj_is_bitfield),
+    One(tj_is_slice_pointer),
+    One(tj_can_be_sized),
+    One(tj_can_be_struct_member),
+    One(tj_can_be_word_member),
+    One(tj_can_be_constant),
+    One(tj_can_be_variable),
+    One(tj_can_be_parameter),
+    One(tj_can_be_returned),
+    One(tj_get_element_type),
+    One(tj_get_pointee_type),
+    One(tj_get_viewee_type),
+    One(tj_fully_dereferenced),
+    One(tj_pointer_depth),
+    Size(tj_known_size_in_bytes_as_word_member),
+    Size(tj_stored_size),
+    Halves(tj_min_i128),
+    Halves(tj_max_u128),
+    Two(tj_identical),
+    Two(tj_equals),
+    Two(tj_is_like),
+    Two(tj_can_be_declared_as),
+    Two(tj_can_be_concretization_of),
+    Two(tj_can_coerce_into),
+    Two(tj_can_coerce_address_into),
+    Two(tj_can_autoderef_into),
+    Two(tj_can_subautoderef_into),
+];
+
+/// Stands around and between everything that is lent.
+const GUARD: u64 = 0x6a75_6172_6421_a5a5;
+/// Stands in the outputs before the call.
+const KEPT: u64 = 0x6b65_7074_2121_5a5a;
+
+/// The library's answer, or what it did to words that it had no business with.
+pub fn answer(question: usize, a: &[u64], b: &[u64]) -> Result<Answer, String> {
+    // guard, a, guard, b, guard, first output, guard, second output, guard
+    let (at_a, at_b) = (1, a.len() + 2);
+    let (first, second) = (at_b + b.len() + 1, at_b + b.len() + 3);
+    let mut lent = vec![GUARD; second + 2];
+    lent[at_a..at_a + a.len()].copy_from_slice(a);
+    lent[at_b..at_b + b.len()].copy_from_slice(b);
+    lent[first] = KEPT;
+    lent[second] = KEPT;
+    let mut before = lent.clone();
+
+    let base = lent.as_mut_ptr();
+    // Every place is inside `lent`; no two slices overlap, and an empty one points to a guard.
+    let (raw, outputs) = unsafe {
+        let (pa, pb) = (base.add(at_a), base.add(at_b));
+        let (p1, p2) = (base.add(first), base.add(second));
+        match &ENTRIES[question] {
+            One(entry) => (entry(pa, a.len()), 0),
+            Size(entry) => (entry(pa, a.len(), p1), 1),
+            Halves(entry) => (entry(pa, a.len(), p1, p2), 2),
+            Two(entry) => (entry(pa, a.len(), pb, b.len()), 0),
+        }
+    };
+
+    let written = [lent[first], lent[second]];
+    let written: Vec<u64> = match written.iter().take_while(|word| **word != KEPT).count() {
+        count if count <= outputs => written[..count].to_vec(),
+        _ => return Err("an output that was not lent is changed".into()),
+    };
+    for (place, word) in [first, second].iter().zip(&written) {
+        before[*place] = *word;
+    }
+    if lent != before {
+        return Err("a lent word or one beside it is changed".into());
+    }
+    Ok(Answer {
+        refusal: raw.refusal,
+        value: raw.value,
+        written,
+    })
+}

@@ -1,0 +1,65 @@
+//! The original Rust as the judge of the proved library.
+
+include!(concat!(env!("OUT_DIR"), "/penne.rs"));
+
+mod answers;
+mod ask;
+mod caught;
+#[cfg(face)]
+mod compare;
+#[cfg(face)]
+mod face;
+// Its fields are there for the original's text to fill in.
+#[allow(dead_code)]
+mod prelude;
+mod random;
+#[cfg(face)]
+mod small;
+mod smoke;
+mod types;
+mod words;
+
+use std::env;
+use std::io::Write;
+use std::process::exit;
+
+const USAGE: &str = "oracle smoke | oracle answers COUNT SEED | oracle compare SCALE SEED";
+
+fn main() {
+    let words: Vec<String> = env::args().skip(1).collect();
+    let words: Vec<&str> = words.iter().map(String::as_str).collect();
+    match words[..] {
+        ["smoke"] => verdict(smoke::smoke()),
+        ["answers", count, seed] => {
+            let list = answers::answers(number(count) as usize, number(seed));
+            std::io::stdout().write_all(list.as_bytes()).unwrap();
+        }
+        ["compare", scale, seed] => run(number(scale), number(seed)),
+        _ => fail(USAGE),
+    }
+}
+
+#[cfg(face)]
+fn run(scale: u64, seed: u64) {
+    verdict(compare::compare(scale, seed));
+}
+
+#[cfg(not(face))]
+fn run(_scale: u64, _seed: u64) {
+    fail("this oracle was built without the library: set TRESTLEJAY_LIB and build again");
+}
+
+fn verdict((passed, failed): (u64, u64)) {
+    println!("{passed} passed, {failed} failed");
+    exit(i32::from(failed > 0));
+}
+
+fn number(word: &str) -> u64 {
+    word.parse()
+        .unwrap_or_else(|_| fail(&format!("not a number: {word}")))
+}
+
+fn fail(words: &str) -> ! {
+    eprintln!("oracle: {words}");
+    exit(2);
+}
