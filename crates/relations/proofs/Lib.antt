@@ -2,3 +2,5 @@
 pub mod Steps
 pub mod Decisions
 pub mod Told
+pub mod Theorems
+pub mod Single
