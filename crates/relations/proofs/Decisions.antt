@@ -50,23 +50,23 @@ module _ (a b : List ℕ) where
       unfolding concretization
       concrete-array t i = rw (more a, more b, ← e, n, ← p, t) i
 
-      module _ (u : Bool) (s : g ≡ false) (q : u ≡ sliceMeetsArraylike (getD a 0 0) (getD b 0 0)) where
-        pub concrete-slice : u ≡ true → r ≡ like (layers (rest a)) (layers (rest b)) → r ≡ concretization (layers a) (layers b)
+      module _ (s : g ≡ false) where
+        pub concrete-slice : sliceMeetsArraylike (getD a 0 0) (getD b 0 0) ≡ true → r ≡ like (layers (rest a)) (layers (rest b)) → r ≡ concretization (layers a) (layers b)
         unfolding concretization
-        concrete-slice t i = rw (more a, more b, ← e, n, ← p, s, ← q, t) i
+        concrete-slice t i = rw (more a, more b, ← e, n, ← p, s, t) i
 
-        module _ (m : ℕ) (v : Bool) (t : u ≡ false) (w : m ≡ outer (layers (rest b)))
+        module _ (m : ℕ) (v : Bool) (t : sliceMeetsArraylike (getD a 0 0) (getD b 0 0) ≡ false) (w : m ≡ outer (layers (rest b)))
             (j : v ≡ slicePointerMeetsPointer (getD a 0 0) (getD b 0 0) m) where
           pub concrete-pointer : (d : List ℕ) → v ≡ true → d ≡ innerWords (rest b) → r ≡ like (layers (rest a)) (layers d) →
               r ≡ concretization (layers a) (layers b)
           unfolding concretization
-          concrete-pointer d x y i = rw (more a, more b, ← e, n, ← p, s, ← q, t, ← w, ← j, x, ← inner-layers, ← y) i
+          concrete-pointer d x y i = rw (more a, more b, ← e, n, ← p, s, t, ← w, ← j, x, ← inner-layers, ← y) i
 
           module _ (z : Bool) (x : v ≡ false) (y : z ≡ resolves (head a) (head b)) where
             pub concrete-resolved : z ≡ true → true ≡ concretization (layers a) (layers b)
             unfolding concretization
-            concrete-resolved i = rw (more a, more b, ← e, n, ← p, s, ← q, t, ← w, ← j, x, ← y, i)
+            concrete-resolved i = rw (more a, more b, ← e, n, ← p, s, t, ← w, ← j, x, ← y, i)
 
             pub concrete-same : z ≡ false → r ≡ identical (layers a) (layers b) → r ≡ concretization (layers a) (layers b)
             unfolding concretization
-            concrete-same i o = rw (more a, more b, ← e, n, ← p, s, ← q, t, ← w, ← j, x, ← y, i) (rw (more a, more b) at o)
+            concrete-same i o = rw (more a, more b, ← e, n, ← p, s, t, ← w, ← j, x, ← y, i) (rw (more a, more b) at o)

@@ -1,15 +1,14 @@
 -- What follows from the definitions of the relations alone.
 -- Assumes nothing.
-use mathlib.Core.Path.{_≡_, refl, ap, sym, _∙_}
-use mathlib.Core.Bool.{Bool, true, false, cond, _&&_, _||_, and-false, false≢true}
+use mathlib.Core.Path.{_≡_, refl, _∙_}
+use mathlib.Core.Bool.{Bool, true, false, _&&_, _||_, and-false, false≢true}
 use mathlib.Core.List.{List, [], _∷_}
 use Prim.Native.Nat.{ℕ}
 use lib.Dec.{eqb}
 use borrow.Author.Tests.{eq-eqb, eqb-true}
 use Rattle.kinds.specs.Kind as kind
 use Rattle.layers.specs.Layers.{Layer, layer, outer, inside, isSlice}
-use Rattle.layers.proofs.Decide.{yes, no}
-use Rattle.relations.specs.Relations.{sameLayer, identical, plain, equals, arrayMeetsArraylike, like, declaresArraylike, slicePointerMeetsPointer, declared, sameHolder, sliceMeetsArraylike, meetsArraylike, resolves, concretization}
+use Rattle.relations.specs.Relations.{sameLayer, identical, plain, equals, arrayMeetsArraylike, like, declaresArraylike, slicePointerMeetsPointer, declared, sameHolder, meetsArraylike, resolves, concretization}
 
 left : (u v : Bool) → (u && v) ≡ true → u ≡ true
 left true v e = refl

@@ -81,12 +81,6 @@ fn same_holder(a: &[u64], b: &[u64]) -> bool
         & ((k != Kind::ARRAY_WITH_NAMED_LENGTH) | (a[1] == b[1]))
 }
 
-fn slice_meets_arraylike(k: u64, l: u64) -> bool
-    ensures { λ r. ⌜ r ≡ rules.sliceMeetsArraylike k l ⌝ }
-{
-    ((k == Kind::SLICE) | (k == Kind::SLICE_POINTER)) & (l == Kind::ARRAYLIKE)
-}
-
 // A Struct or a Word against an unresolved type with no name or the same name.
 fn resolves(a: &[u64], b: &[u64]) -> bool
     requires { ⌜ (3 ≤ length (now a)) × (3 ≤ length (now b)) ⌝ }
@@ -117,7 +111,7 @@ pub fn can_be_concretization_of(a: &[u64], b: &[u64]) -> bool
     }
     let element = &a[3..];
     let held = &b[3..];
-    if slice_meets_arraylike(k, l) {
+    if ((k == Kind::SLICE) | (k == Kind::SLICE_POINTER)) & (l == Kind::ARRAYLIKE) {
         return is_like(element, held);
     }
     if slice_pointer_meets_pointer(k, l, outer(held)) {

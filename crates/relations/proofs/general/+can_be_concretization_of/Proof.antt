@@ -11,7 +11,6 @@ use Rattle.relations.proofs.same.identical.Reads as identical
 use Rattle.relations.proofs.general.is_like.Reads as is-like
 use Rattle.relations.proofs.general.same_holder.Reads as same-holder
 use Rattle.relations.proofs.general.array_meets_arraylike.Reads as array-meets-arraylike
-use Rattle.relations.proofs.general.slice_meets_arraylike.Reads as slice-meets-arraylike
 use Rattle.relations.proofs.general.slice_pointer_meets_pointer.Reads as slice-pointer-meets-pointer
 use Rattle.relations.proofs.general.resolves.Reads as resolves
 use Rattle.relations.proofs.general.can_be_concretization_of.Reads.{Pre, Post}
@@ -33,8 +32,6 @@ pub +can-be-concretization-of-spec : {M : Type 1} → statement M
   array-meets-arraylike.Learnt,
   is-like.Asked,
   is-like.Learnt,
-  slice-meets-arraylike.Asked,
-  slice-meets-arraylike.Learnt,
   outer.Asked,
   outer.Learnt,
   slice-pointer-meets-pointer.Asked,
@@ -74,7 +71,6 @@ pub +can-be-concretization-of-spec : {M : Type 1} → statement M
     (λ c. search needs)
     (λ c. search needs)
     (λ c. search needs)
-    (λ c κs. search needs)
     (λ c κs. search (needs, shorter))
     (λ c. search concrete-slice)
     (λ c κs. search needs)
