@@ -1,13 +1,13 @@
 -- What follows from the definitions of the relations alone.
 -- Assumes nothing.
-use mathlib.Core.Path.{_≡_, refl, _∙_}
-use mathlib.Core.Bool.{Bool, true, false, _&&_, _||_, and-false, false≢true}
+use mathlib.Core.Path.{_≡_, refl, sym, _∙_}
+use mathlib.Core.Bool.{Bool, true, false, cond, not, _&&_, _||_, and-false, false≢true}
 use mathlib.Core.List.{List, [], _∷_}
 use Prim.Native.Nat.{ℕ}
 use lib.Dec.{eqb}
 use borrow.Author.Tests.{eq-eqb, eqb-true}
 use Rattle.kinds.specs.Kind as kind
-use Rattle.layers.specs.Layers.{Layer, layer, outer, inside, isSlice}
+use Rattle.layers.specs.Layers.{Layer, layer, outer, inside, isSlice, holdsInner}
 use Rattle.relations.specs.Relations.{sameLayer, identical, plain, equals, arrayMeetsArraylike, like, declaresArraylike, slicePointerMeetsPointer, declared, sameHolder, meetsArraylike, resolves, concretization}
 
 left : (u v : Bool) → (u && v) ≡ true → u ≡ true
@@ -69,9 +69,12 @@ declares-no-arraylike k = other (λ (j : ℕ). eqb j kind.array || eqb j kind.ar
 meets-no-pointer : (k m : ℕ) → slicePointerMeetsPointer k k m ≡ false
 meets-no-pointer k m = rw (other (λ (j : ℕ). eqb j kind.slicePointer) k kind.pointer refl)
 
+meets-no-array : (k : ℕ) → arrayMeetsArraylike k k ≡ false
+meets-no-array k =
+    other (λ (j : ℕ). eqb j kind.array || eqb j kind.arrayWithNamedLength || eqb j kind.endlessArray) k kind.arraylike refl
+
 meets-no-arraylike : (k : ℕ) → meetsArraylike k k ≡ false
-meets-no-arraylike k =
-    rw (other (λ (j : ℕ). eqb j kind.array || eqb j kind.arrayWithNamedLength || eqb j kind.endlessArray) k kind.arraylike refl, other isSlice k kind.arraylike refl)
+meets-no-arraylike k = rw (meets-no-array k, other isSlice k kind.arraylike refl)
 
 resolves-not : (x : Layer) → resolves x x ≡ false
 resolves-not x = rw (other (λ (j : ℕ). eqb j kind.struct || eqb j kind.word) (x .kind) kind.unresolvedStructOrWord refl)
@@ -96,6 +99,9 @@ pub concretization-otherwise : (x y : Layer) (a b : List Layer) → sameHolder x
 unfolding concretization
 concretization-otherwise x y a b e f g h = rw (e, f, g, h)
 
+like-reflexive : (a : List Layer) → like a a ≡ true
+like-reflexive a = like-otherwise a a (meets-no-array (outer a)) ∙ identical-reflexive a
+
 declared-reflexive : (a : List Layer) → declared a a ≡ true
 declared-reflexive a =
     declared-otherwise a a (declares-no-arraylike (outer a)) (meets-no-pointer (outer a) (outer (inside a))) ∙ identical-reflexive a
@@ -111,16 +117,41 @@ concretization-reflexive (x ∷ a) = by-layer (sameHolder x x) (concretization-r
         concretization-otherwise x x a a e (meets-no-arraylike (x .kind)) (meets-no-pointer (x .kind) (outer a)) (resolves-not x)
         ∙ identical-reflexive (x ∷ a)
 
--- Identical types are equal, declared as each other, and concretizations of each other.
+-- Identical types are equal, like each other, declared as each other, and concretizations of each other.
 module _ (a b : List Layer) (e : identical a b ≡ true) where
   pub identical-equals : equals a b ≡ true
   identical-equals = rw (identical-equal a b e) (equals-reflexive b)
+
+  pub identical-like : like a b ≡ true
+  identical-like = rw (identical-equal a b e) (like-reflexive b)
 
   pub identical-declared : declared a b ≡ true
   identical-declared = rw (identical-equal a b e) (declared-reflexive b)
 
   pub identical-concretization : concretization a b ≡ true
   identical-concretization = rw (identical-equal a b e) (concretization-reflexive b)
+
+same-kind : (x y : Layer) → sameHolder x y ≡ true → x .kind ≡ y .kind
+same-kind x y e =
+    let length = not (eqb (x .kind) kind.array) || eqb (x .number) (y .number) in
+    let name = not (eqb (x .kind) kind.arrayWithNamedLength) || eqb (x .name) (y .name) in
+    eqb-true (x .kind) (y .kind) (right (holdsInner (x .kind)) _ (left _ length (left _ name e)))
+
+-- A type that is like another is a concretization of it.
+pub like-concretization : (a b : List Layer) → like a b ≡ true → concretization a b ≡ true
+unfolding like concretization
+like-concretization [] b e = e
+like-concretization (x ∷ a) [] e = e
+like-concretization (x ∷ a) (y ∷ b) e = by-kinds (arrayMeetsArraylike (x .kind) (y .kind)) e refl
+  where
+    by-kinds : (u : Bool) → cond u (like a b) (identical (x ∷ a) (y ∷ b)) ≡ true → arrayMeetsArraylike (x .kind) (y .kind) ≡ u →
+        concretization (x ∷ a) (y ∷ b) ≡ true
+    by-kinds true i p = by-holder (sameHolder x y) refl
+      where
+        by-holder : (u : Bool) → sameHolder x y ≡ u → concretization (x ∷ a) (y ∷ b) ≡ true
+        by-holder true q = absurd (false≢true (sym (meets-no-array (y .kind)) ∙ (rw (same-kind x y q) at p)))
+        by-holder false q = rw (q, p) i
+    by-kinds false i p = identical-concretization (x ∷ a) (y ∷ b) i
 
 -- "Char8 equals Uint8, isn't declared as it."
 abbrev char8 : List Layer
