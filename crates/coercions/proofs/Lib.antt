@@ -1,1 +1,4 @@
 -- What the proofs of several functions use.
+pub mod Decisions
+pub mod Dereferences
+pub mod Told

@@ -31,7 +31,10 @@ pub fn can_autoderef_into(a: &[u64], b: &[u64]) -> bool
         return equals(a, b) || can_subautoderef_into(a, b);
     }
     if k == Kind::POINTER {
-        return equals(a, b) || can_coerce_address_into(inner(a), b) || can_subautoderef_into(a, b);
+        if can_coerce_address_into(inner(a), b) {
+            return true;
+        }
+        return equals(a, b) || can_subautoderef_into(a, b);
     }
     false
 }
@@ -46,9 +49,13 @@ pub fn can_subautoderef_into(a: &[u64], b: &[u64]) -> bool
     let k = a[0];
     if (k == Kind::POINTER) | (k == Kind::VIEW) {
         let d = &a[3..];
-        return equals(d, b)
-            || can_subautoderef_into(d, b)
-            || (outer(b) == k && can_subautoderef_into(d, inner(b)));
+        if equals(d, b) {
+            return true;
+        }
+        if can_subautoderef_into(d, b) {
+            return true;
+        }
+        return (outer(b) == k) && can_subautoderef_into(d, inner(b));
     }
     false
 }
