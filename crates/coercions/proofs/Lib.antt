@@ -2,3 +2,5 @@
 pub mod Decisions
 pub mod Dereferences
 pub mod Told
+pub mod Theorems
+pub mod Single
