@@ -1,10 +1,9 @@
 -- Sub-autoderefs and autoderefs, by what the code tested.
 -- Assumes nothing.
 use mathlib.Core.Path.{_≡_, refl, sym, _∙_}
-use mathlib.Core.Bool.{Bool, true, false, cond, _&&_, _||_, or-true, or-false, true≢false, false≢true}
+use mathlib.Core.Bool.{Bool, true, false, _&&_, _||_, or-true, or-false, false≢true}
 use mathlib.Core.List.{List, [], _∷_}
 use Prim.Native.Nat.{ℕ, _≤_, _<_}
-use native.Mathlib.Omega.{arith}
 use lib.Dec.{eqb}
 use lib.ListN.{length, getD}
 use borrow.Author.Tests.{eq-eqb, ne-eqb}
@@ -52,7 +51,7 @@ module _ (a b : List ℕ) where
           unfolding subautoderefs
           sub-no-other u = rw (more a, e, ← p, s, ← q, t, ← w, ne-eqb k (getD a 0 0) u)
 
--- a View and a Pointer of autoderefs: "a equals b", or what sub-autoderefs says
+-- the lines that autoderefs has for a View and a Pointer are "a equals b", here u, and those of sub-autoderefs
 grouped : (u v w z : Bool) → (u || (v || w || z)) ≡ (u || v || w || z)
 grouped true v w z = refl
 grouped false v w z = refl

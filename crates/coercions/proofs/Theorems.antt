@@ -1,7 +1,7 @@
 -- What follows from the definitions of the coercions and dereferences alone.
 -- Assumes nothing.
 use mathlib.Core.Path.{_≡_, refl, sym, subst, _∙_}
-use mathlib.Core.Bool.{Bool, true, false, cond, _&&_, _||_, and-false, or-true, true≢false, false≢true}
+use mathlib.Core.Bool.{Bool, true, false, cond, _&&_, _||_, or-true, false≢true}
 use mathlib.Core.List.{List, [], _∷_}
 use Prim.Native.Nat.{ℕ}
 use lib.Dec.{eqb}
@@ -10,7 +10,7 @@ use Rattle.kinds.specs.Kind as kind
 use Rattle.layers.specs.Layers.{Layer, layer, outer, inside, isReference}
 use Rattle.relations.specs.Relations.{identical, equals}
 use Rattle.relations.proofs.Theorems.{identical-equals, equals-reflexive}
-use Rattle.coercions.specs.Coercions.{hasLength, intoSlice, intoEndlessArray, structIntoView, coerces, addressIntoSlicePointer, addressIntoEndlessArray, addressCoerces, subautoderefs, isArrayOrStruct, viewAutoderefs, pointerAutoderefs, autoderefs}
+use Rattle.coercions.specs.Coercions.{hasLength, intoSlice, intoEndlessArray, structIntoView, coerces, addressCoerces, isArrayOrStruct, viewAutoderefs, pointerAutoderefs, autoderefs}
 
 -- the pairs of kinds of which a value may coerce
 abbrev listed : ℕ → ℕ → ℕ → Bool
@@ -85,13 +85,11 @@ array-or-struct k l m e =
     by-tests false false false false true h = or-true (eqb k kind.endlessArray)
     by-tests false false false false false h = absurd (false≢true h)
 
-coercing : (a b : List Layer) → coerces a b ≡ true → isArrayOrStruct (outer a) ≡ true
-coercing a b e = array-or-struct (outer a) (outer b) (outer (inside b)) (coerces-listed a b e)
-
 -- What coerces also autoderefs; it is of one of the kinds 14-18 and 20.
 pub coerces-autoderefs : (a b : List Layer) → coerces a b ≡ true → autoderefs a b ≡ true
 unfolding autoderefs
-coerces-autoderefs a b e = rw (coercing a b e, e) (or-true (equals a b))
+coerces-autoderefs a b e =
+    rw (array-or-struct (outer a) (outer b) (outer (inside b)) (coerces-listed a b e), e) (or-true (equals a b))
 
 -- What a type's address coerces into, a Pointer to the type autoderefs into.
 pub address-autoderefs : (x : Layer) (d b : List Layer) → x .kind ≡ kind.pointer → addressCoerces d b ≡ true →

@@ -1,6 +1,6 @@
 -- "Relations", on runs of layers: coercions and dereferences. A left and a right type, of the outer kinds k and l; m is
 -- the outer kind of what the right type holds, and d is what the left type holds.
-use mathlib.Core.Bool.{Bool, true, false, cond, _&&_, _||_}
+use mathlib.Core.Bool.{Bool, false, cond, _&&_, _||_}
 use mathlib.Core.List.{List, [], _∷_}
 use Prim.Native.Nat.{ℕ}
 use lib.Dec.{eqb}
@@ -12,11 +12,11 @@ use Rattle.relations.specs.Relations.{identical, equals}
 abbrev pub hasLength : ℕ → Bool
 hasLength k = eqb k kind.array || eqb k kind.arrayWithNamedLength
 
--- "coerces: kind 14 or 15 into Slice or View of EndlessArray;"
+-- "coerces: kind 14 or 15 into Slice ...;"
 abbrev pub intoSlice : ℕ → ℕ → Bool
 intoSlice k l = hasLength k && eqb l kind.slice
 
--- "Slice into View of EndlessArray; SlicePointer into Pointer to EndlessArray;"
+-- "kind 14 or 15 into ... View of EndlessArray; Slice into View of EndlessArray; SlicePointer into Pointer to EndlessArray;"
 abbrev pub intoEndlessArray : ℕ → ℕ → ℕ → Bool
 intoEndlessArray k l m =
     (hasLength k || eqb k kind.slice) && eqb l kind.view && eqb m kind.endlessArray
