@@ -1,0 +1,2 @@
+pub mod Coercions
+pub mod Answers
