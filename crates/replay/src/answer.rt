@@ -71,6 +71,20 @@ fn measure(f: u64, t: &[u64]) -> Got {
     }
 }
 
+fn relation(f: u64, a: &[u64], b: &[u64]) -> Answer {
+    match f {
+        23 => trestlejay::tj_identical(a, b),
+        24 => trestlejay::tj_equals(a, b),
+        25 => trestlejay::tj_is_like(a, b),
+        26 => trestlejay::tj_can_be_declared_as(a, b),
+        27 => trestlejay::tj_can_be_concretization_of(a, b),
+        28 => trestlejay::tj_can_coerce_into(a, b),
+        29 => trestlejay::tj_can_coerce_address_into(a, b),
+        30 => trestlejay::tj_can_autoderef_into(a, b),
+        _ => trestlejay::tj_can_subautoderef_into(a, b),
+    }
+}
+
 // The answer to a question by the function's number, in the header's order.
 pub fn ask(f: u64, a: &[u64], b: &[u64]) -> Got {
     if f < 7 {
@@ -82,5 +96,8 @@ pub fn ask(f: u64, a: &[u64], b: &[u64]) -> Got {
     if f < 19 {
         return plain(part(f, a));
     }
-    measure(f, a)
+    if f < 23 {
+        return measure(f, a);
+    }
+    plain(relation(f, a, b))
 }

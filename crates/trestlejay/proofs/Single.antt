@@ -7,6 +7,7 @@ use denote.Triple.Clauses.{AtExit}
 use borrow.Fn.Kinds.{Out, Dens, resT, endedOf}
 use Rattle.layers.proofs.Single.{Single}
 use Rattle.trestlejay.proofs.properties.tj_check.Kinds as of-type
+use Rattle.trestlejay.proofs.pairs.tj_equals.Kinds as of-pair
 use Rattle.trestlejay.proofs.measures.tj_stored_size.Kinds as with-size
 use Rattle.trestlejay.proofs.measures.tj_min_i128.Kinds as with-halves
 use Rattle.trestlejay.proofs.properties.tj_check.Reads as tj-check
@@ -32,6 +33,15 @@ use Rattle.trestlejay.proofs.measures.tj_known_size_in_bytes_as_word_me
 use Rattle.trestlejay.proofs.measures.tj_stored_size.Reads as tj-stored-size
 use Rattle.trestlejay.proofs.measures.tj_min_i128.Reads as tj-min-i128
 use Rattle.trestlejay.proofs.measures.tj_max_u128.Reads as tj-max-u128
+use Rattle.trestlejay.proofs.pairs.tj_identical.Reads as tj-identical
+use Rattle.trestlejay.proofs.pairs.tj_equals.Reads as tj-equals
+use Rattle.trestlejay.proofs.pairs.tj_is_like.Reads as tj-is-like
+use Rattle.trestlejay.proofs.pairs.tj_can_be_declared_as.Reads as tj-can-be-declared-as
+use Rattle.trestlejay.proofs.pairs.tj_can_be_concretization_of.Reads as tj-can-be-concretization-of
+use Rattle.trestlejay.proofs.pairs.tj_can_coerce_into.Reads as tj-can-coerce-into
+use Rattle.trestlejay.proofs.pairs.tj_can_coerce_address_into.Reads as tj-can-coerce-address-into
+use Rattle.trestlejay.proofs.pairs.tj_can_autoderef_into.Reads as tj-can-autoderef-into
+use Rattle.trestlejay.proofs.pairs.tj_can_subautoderef_into.Reads as tj-can-subautoderef-into
 
 abbrev SingleOfType : Out 1 of-type.ps of-type.r → Type 0
 SingleOfType Q = Single 1 of-type.ps of-type.r Q
@@ -92,6 +102,36 @@ tj-fully-dereferenced-single κs a x y s t p q = p ∙ sym q
 
 pub tj-pointer-depth-single : SingleOfType tj-pointer-depth.Post
 tj-pointer-depth-single κs a x y s t p q = p ∙ sym q
+
+abbrev SingleOfPair : Out 2 of-pair.ps of-pair.r → Type 0
+SingleOfPair Q = Single 2 of-pair.ps of-pair.r Q
+
+pub tj-identical-single : SingleOfPair tj-identical.Post
+tj-identical-single κs a x y s t p q = p ∙ sym q
+
+pub tj-equals-single : SingleOfPair tj-equals.Post
+tj-equals-single κs a x y s t p q = p ∙ sym q
+
+pub tj-is-like-single : SingleOfPair tj-is-like.Post
+tj-is-like-single κs a x y s t p q = p ∙ sym q
+
+pub tj-can-be-declared-as-single : SingleOfPair tj-can-be-declared-as.Post
+tj-can-be-declared-as-single κs a x y s t p q = p ∙ sym q
+
+pub tj-can-be-concretization-of-single : SingleOfPair tj-can-be-concretization-of.Post
+tj-can-be-concretization-of-single κs a x y s t p q = p ∙ sym q
+
+pub tj-can-coerce-into-single : SingleOfPair tj-can-coerce-into.Post
+tj-can-coerce-into-single κs a x y s t p q = p ∙ sym q
+
+pub tj-can-coerce-address-into-single : SingleOfPair tj-can-coerce-address-into.Post
+tj-can-coerce-address-into-single κs a x y s t p q = p ∙ sym q
+
+pub tj-can-autoderef-into-single : SingleOfPair tj-can-autoderef-into.Post
+tj-can-autoderef-into-single κs a x y s t p q = p ∙ sym q
+
+pub tj-can-subautoderef-into-single : SingleOfPair tj-can-subautoderef-into.Post
+tj-can-subautoderef-into-single κs a x y s t p q = p ∙ sym q
 
 abbrev SingleWithSize : Out 2 with-size.ps with-size.r → Type 0
 SingleWithSize Q =

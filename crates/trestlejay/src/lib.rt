@@ -1,6 +1,7 @@
 // The C face: each public question as an exported function, as include/trestlejay.h declares it.
 mod flat;
 mod measures;
+mod pairs;
 mod properties;
 mod starts;
 mod uses;
@@ -11,6 +12,15 @@ pub use measures::tj_max_u128;
 pub use measures::tj_min_i128;
 pub use measures::tj_pointer_depth;
 pub use measures::tj_stored_size;
+pub use pairs::tj_can_autoderef_into;
+pub use pairs::tj_can_be_concretization_of;
+pub use pairs::tj_can_be_declared_as;
+pub use pairs::tj_can_coerce_address_into;
+pub use pairs::tj_can_coerce_into;
+pub use pairs::tj_can_subautoderef_into;
+pub use pairs::tj_equals;
+pub use pairs::tj_identical;
+pub use pairs::tj_is_like;
 pub use properties::tj_check;
 pub use properties::tj_is_bitfield;
 pub use properties::tj_is_integral;

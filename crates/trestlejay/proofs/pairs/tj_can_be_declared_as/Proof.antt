@@ -1,0 +1,11 @@
+use borrow.Author.Needs.{needs}
+use Rattle.trestlejay.proofs.pairs.tj_can_be_declared_as.Statement.{statement}
+use Rattle.trestlejay.proofs.pairs.tj_can_be_declared_as.Tie as tie
+
+pub tj-can-be-declared-as-spec : {M : Type 1} → statement M
+tj-can-be-declared-as-spec =
+    tie.close
+    (tie.spec
+    (λ c κs. search needs)
+    (λ c κs. search needs)
+    (λ c. cc))

@@ -1,0 +1,11 @@
+use borrow.Author.Needs.{needs}
+use Rattle.trestlejay.proofs.pairs.tj_equals.Statement.{statement}
+use Rattle.trestlejay.proofs.pairs.tj_equals.Tie as tie
+
+pub tj-equals-spec : {M : Type 1} → statement M
+tj-equals-spec =
+    tie.close
+    (tie.spec
+    (λ c κs. search needs)
+    (λ c κs. search needs)
+    (λ c. cc))

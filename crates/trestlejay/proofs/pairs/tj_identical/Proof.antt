@@ -1,0 +1,11 @@
+use borrow.Author.Needs.{needs}
+use Rattle.trestlejay.proofs.pairs.tj_identical.Statement.{statement}
+use Rattle.trestlejay.proofs.pairs.tj_identical.Tie as tie
+
+pub tj-identical-spec : {M : Type 1} → statement M
+tj-identical-spec =
+    tie.close
+    (tie.spec
+    (λ c κs. search needs)
+    (λ c κs. search needs)
+    (λ c. cc))

@@ -1,0 +1,11 @@
+use borrow.Author.Needs.{needs}
+use Rattle.trestlejay.proofs.pairs.tj_is_like.Statement.{statement}
+use Rattle.trestlejay.proofs.pairs.tj_is_like.Tie as tie
+
+pub tj-is-like-spec : {M : Type 1} → statement M
+tj-is-like-spec =
+    tie.close
+    (tie.spec
+    (λ c κs. search needs)
+    (λ c κs. search needs)
+    (λ c. cc))
