@@ -36,5 +36,7 @@ int main(void)
     printf("which is %" PRIu64 "\n", size);
     say("highest value of the leaf of view", tj_max_u128(view + 6, 3, &low, &high));
     printf("which is %" PRIu64 " * 2^64 + %" PRIu64 "\n", high, low);
+    say("array coerces into slice", tj_can_coerce_into(WORDS(array), WORDS(slice)));
+    say("slice coerces into array", tj_can_coerce_into(WORDS(slice), WORDS(array)));
     return 0;
 }
