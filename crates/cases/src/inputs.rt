@@ -19,7 +19,7 @@ fn pointers() -> [u64; 51]
 }
 
 // Every word count from 0 to 51, with a leaf missing.
-pub fn counts() {
+pub(crate) fn counts() {
     let ws = pointers();
     let mut n = 0;
     while n < 52 {
@@ -29,7 +29,7 @@ pub fn counts() {
 }
 
 // Sixteen layers with a leaf at each of them in turn: early at each but the last.
-pub fn leaves() {
+pub(crate) fn leaves() {
     let mut i = 0;
     while i < 16 {
         let mut ws = pointers();
@@ -60,7 +60,7 @@ fn kind(k: u64) {
 }
 
 // Every kind, and the first number that is none.
-pub fn kinds() {
+pub(crate) fn kinds() {
     let mut k = 0;
     while k < 26 {
         kind(k);
@@ -87,7 +87,7 @@ fn around_each(k: u64) {
 }
 
 // Every kind that holds a layer, around every kind.
-pub fn nested() {
+pub(crate) fn nested() {
     let mut k = Kind::ARRAY;
     while k < 25 {
         around_each(k);
@@ -102,7 +102,7 @@ fn array_of_array(length: u64, inner: u64, leaf: u64) {
 }
 
 // Stored sizes at the edge: the largest, one more, an element over it, no size.
-pub fn arrays() {
+pub(crate) fn arrays() {
     array_of_array(4294967296, 4294967295, Kind::INT8);
     array_of_array(4294967296, 4294967296, Kind::INT8);
     array_of_array(1, 18446744073709551615, Kind::BOOL);

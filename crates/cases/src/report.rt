@@ -113,7 +113,7 @@ fn measures(ws: &[u64]) {
     size(sizes::stored_size(ws));
 }
 
-pub fn heading() {
+pub(crate) fn heading() {
     text(b"words: layers wellformed void integral signed bitfield slice_pointer");
     text(b" | sized struct_member word_member constant variable parameter returned");
     text(b" | element pointee viewee dereferenced");
@@ -121,7 +121,7 @@ pub fn heading() {
 }
 
 // One line: how many words, the first layer, the second's kind, and every answer.
-pub fn report(ws: &[u64]) {
+pub(crate) fn report(ws: &[u64]) {
     io::print_decimal(OUT, ws.len() as u64);
     if ws.len() >= 3 {
         text(b" (");

@@ -1,7 +1,7 @@
 use trestlejay::Answer;
 
 // What was answered, with what was written behind the pointers that were lent.
-pub struct Got {
+pub(crate) struct Got {
     pub refusal: u64,
     pub value: u64,
     pub first: u64,
@@ -9,7 +9,7 @@ pub struct Got {
 }
 
 // What stands behind the pointers before the call.
-pub const BEFORE: u64 = 7777;
+pub(crate) const BEFORE: u64 = 7777;
 
 fn plain(a: Answer) -> Got {
     Got {
@@ -86,7 +86,7 @@ fn relation(f: u64, a: &[u64], b: &[u64]) -> Answer {
 }
 
 // The answer to a question by the function's number, in the header's order.
-pub fn ask(f: u64, a: &[u64], b: &[u64]) -> Got {
+pub(crate) fn ask(f: u64, a: &[u64], b: &[u64]) -> Got {
     if f < 7 {
         return plain(property(f, a));
     }

@@ -69,7 +69,7 @@ fn summary(cases: u64, failed: u64) {
 }
 
 // Compares every case, and writes how many there were and how many differ.
-pub fn run(s: &[u8]) {
+pub(crate) fn run(s: &[u8]) {
     let mut at = 0;
     let mut cases: u64 = 0;
     let mut failed: u64 = 0;

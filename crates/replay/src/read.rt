@@ -3,7 +3,7 @@ ghost use Prim.Native.Nat.{_≤_, _<_};
 ghost use lib.ListN.{length};
 
 // A number, and where the next one starts.
-pub struct Parsed {
+pub(crate) struct Parsed {
     pub value: u64,
     pub next: usize,
 }
@@ -16,7 +16,7 @@ fn digit(b: u8) -> u64
 }
 
 // The decimal number that starts at a place, and the place behind the byte that ends it. One too long for a word ends early.
-pub fn number(s: &[u8], at: usize) -> Parsed
+pub(crate) fn number(s: &[u8], at: usize) -> Parsed
     requires { ⌜ at ≤ length (now s) ⌝ }
     ensures within { λ r. ⌜ (at ≤ r .next) × (r .next ≤ length (now (s .entry))) ⌝ }
     ensures onward { λ r. ⌜ (at < length (now (s .entry)) → at < r .next) ⌝ }
@@ -38,14 +38,14 @@ pub fn number(s: &[u8], at: usize) -> Parsed
 }
 
 // A count of words, as many as a buffer has room for.
-pub fn room(count: u64) -> usize
+pub(crate) fn room(count: u64) -> usize
     ensures { λ r. ⌜ r ≤ 64 ⌝ }
 {
     if count < 64 { count as usize } else { 64 }
 }
 
 // So many numbers into the buffer; and where the next one starts.
-pub fn numbers(s: &[u8], at: usize, count: usize, out: &mut [u64; 64]) -> usize
+pub(crate) fn numbers(s: &[u8], at: usize, count: usize, out: &mut [u64; 64]) -> usize
     requires { ⌜ (at ≤ length (now s)) × (count ≤ 64) ⌝ }
     ensures { λ r. ⌜ (at ≤ r) × (r ≤ length (now (s .entry))) ⌝ }
 {
