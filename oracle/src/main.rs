@@ -4,6 +4,7 @@ include!(concat!(env!("OUT_DIR"), "/penne.rs"));
 
 mod answers;
 mod ask;
+mod cases;
 mod caught;
 #[cfg(face)]
 mod compare;
@@ -23,16 +24,16 @@ use std::env;
 use std::io::Write;
 use std::process::exit;
 
-const USAGE: &str = "oracle smoke | oracle answers COUNT SEED | oracle compare SCALE SEED";
+const USAGE: &str = "oracle smoke | oracle cases | oracle answers COUNT SEED | oracle compare SCALE SEED";
 
 fn main() {
     let words: Vec<String> = env::args().skip(1).collect();
     let words: Vec<&str> = words.iter().map(String::as_str).collect();
     match words[..] {
         ["smoke"] => verdict(smoke::smoke()),
+        ["cases"] => write(&cases::cases()),
         ["answers", count, seed] => {
-            let list = answers::answers(number(count) as usize, number(seed));
-            std::io::stdout().write_all(list.as_bytes()).unwrap();
+            write(&answers::answers(number(count) as usize, number(seed)));
         }
         ["compare", scale, seed] => run(number(scale), number(seed)),
         _ => fail(USAGE),
@@ -52,6 +53,10 @@ fn run(_scale: u64, _seed: u64) {
 fn verdict((passed, failed): (u64, u64)) {
     println!("{passed} passed, {failed} failed");
     exit(i32::from(failed > 0));
+}
+
+fn write(lines: &str) {
+    std::io::stdout().write_all(lines.as_bytes()).unwrap();
 }
 
 fn number(word: &str) -> u64 {

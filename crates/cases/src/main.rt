@@ -1,6 +1,8 @@
-// Asks every question about one type, of ordinary words and of the worst. What it writes is held to the stored lines.
+// Asks every question about one type and about two, of ordinary words and of the worst. What it writes is held to the stored lines.
 mod inputs;
+mod pairs;
 mod report;
+mod types;
 
 fn main() {
     report::heading();
@@ -9,4 +11,5 @@ fn main() {
     inputs::leaves();
     inputs::nested();
     inputs::arrays();
+    pairs::pairs();
 }
