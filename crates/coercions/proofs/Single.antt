@@ -1,6 +1,6 @@
 -- Each public contract allows one result: any two that it allows of the same arguments coincide.
 -- Assumes nothing.
-use mathlib.Core.Path.{_≡_, sym, _∙_}
+use mathlib.Core.Path.{sym, _∙_}
 use Rattle.layers.proofs.Apart.{verdict-apart}
 use Rattle.layers.proofs.Single.{Single}
 use Rattle.coercions.proofs.coerce.can_coerce_into.Kinds.{ps, r}

@@ -1,14 +1,14 @@
 -- Well formed, by the outer kind and by what is inside.
 -- Assumes nothing.
 use mathlib.Core.Path.{_≡_, refl, sym, _∙_, ap, subst}
-use mathlib.Core.Bool.{Bool, true, false, not, _&&_, _||_, and-true, and-false, true≢false, false≢true}
-use mathlib.Core.List.{List, [], _∷_}
+use mathlib.Core.Bool.{Bool, true, false, not, _&&_, _||_, and-true, and-false, true≢false}
+use mathlib.Core.List.{List}
 use Prim.Native.Nat.{ℕ, _≤_, _<_}
 use lib.Dec.{eqb}
 use lib.ListN.{length, getD}
 use borrow.Author.Tests.{eqb-true, ne-eqb, not-true, not-false}
 use Rattle.kinds.specs.Kind as kind
-use Rattle.layers.specs.Layers.{Layer, layers, outer, inside, isArray, isSlice, isReference, holdsInner}
+use Rattle.layers.specs.Layers.{layers, outer, inside, isArray, isSlice, isReference, holdsInner}
 use Rattle.layers.proofs.Words.{none, more, rest, outer-more}
 use Rattle.forms.specs.Formed.{inner, element, wellFormed}
 

@@ -1,15 +1,14 @@
 -- The table of kinds, and what a good layer is by it.
 -- Assumes nothing.
-use mathlib.Core.Path.{_≡_, refl, sym, _∙_, ap}
-use mathlib.Core.Bool.{Bool, true, false, cond, not, _&&_, _||_, and-true, or-false, false≢true}
+use mathlib.Core.Path.{_≡_, refl, sym, _∙_}
+use mathlib.Core.Bool.{Bool, true, false, cond, not, _&&_, _||_, and-true, false≢true}
 use mathlib.Core.List.{List}
 use Prim.Native.Nat.{ℕ, zero, suc, _+_, _*_, _-_, _/_, _%_, _^_, _<_, _≤_}
 use native.Mathlib.Omega.{arith}
 use lib.Dec.{T, eqb, leb, ltb, eqb→eq}
 use lib.ListN.{length, getD}
 use borrow.Author.Tests.{le-ltb, lt-ltb, le-leb, lt-leb, ne-eqb, eqb-true, ltb-true, not-false}
-use Rattle.kinds.specs.Kind as kind
-use Rattle.layers.specs.Layers.{Layer, layer, holdsInner}
+use Rattle.layers.specs.Layers.{layer, holdsInner}
 use Rattle.layers.specs.Check.{goodLayer, goodName, goodNumber}
 use Rattle.layers.specs.Allows.{allowedOf, mayHaveName, mayHaveNumber}
 use Rattle.layers.specs.declared.allows.Allows.{Allows}

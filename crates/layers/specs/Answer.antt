@@ -1,5 +1,4 @@
 -- "When an answer is an enum, a definition gives this paper's number and values for each of its cases, and the promises use that definition."
-use mathlib.Core.Path.{_≡_}
 use mathlib.Core.Bool.{Bool, true, false}
 use Prim.Native.Nat.{ℕ}
 use Rattle.layers.specs.declared.answers.Checked.{Checked}

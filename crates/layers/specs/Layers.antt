@@ -22,7 +22,7 @@ layers (k ∷ n ∷ []) = []
 layers (k ∷ []) = []
 layers [] = []
 
--- "Kinds 14-19, 23, 24 are never last, all others always."
+-- The kinds that hold an inner type: arrays of any sort, slices, references.
 abbrev pub isArray : ℕ → Bool
 isArray k = eqb k kind.array || eqb k kind.arrayWithNamedLength || eqb k kind.endlessArray || eqb k kind.arraylike
 
@@ -32,6 +32,7 @@ isSlice k = eqb k kind.slice || eqb k kind.slicePointer
 abbrev pub isReference : ℕ → Bool
 isReference k = eqb k kind.pointer || eqb k kind.view
 
+-- "Kinds 14-19, 23, 24 are never last, all others always."
 abbrev pub holdsInner : ℕ → Bool
 holdsInner k = isArray k || isSlice k || isReference k
 

@@ -1,6 +1,6 @@
 -- The public contract allows one result: any two that it allows of the same arguments coincide.
 -- Assumes nothing.
-use mathlib.Core.Path.{_≡_, sym, _∙_}
+use mathlib.Core.Path.{sym, _∙_}
 use Rattle.layers.proofs.Apart.{verdict-apart}
 use Rattle.layers.proofs.Single.{Single}
 use Rattle.roles.proofs.roles.can_be.Kinds as can-be-kinds

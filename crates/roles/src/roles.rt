@@ -7,7 +7,7 @@ use parts::outer;
 use sizes::Size;
 use sizes::known_size;
 ghost use mathlib.Core.Path.{_≡_};
-ghost use mathlib.Core.Bool.{not, _&&_};
+ghost use mathlib.Core.Bool.{not};
 ghost use Rattle.layers.specs.Layers.{layers};
 ghost use Rattle.layers.specs.Answer.{ofVerdict};
 ghost use Rattle.sizes.specs.Known.{knownSize};

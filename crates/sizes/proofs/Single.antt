@@ -1,6 +1,6 @@
 -- Each public contract allows one result: any two that it allows of the same arguments coincide.
 -- Assumes nothing.
-use mathlib.Core.Path.{_≡_, sym, _∙_}
+use mathlib.Core.Path.{sym, _∙_}
 use Rattle.layers.proofs.Single.{Single}
 use Rattle.sizes.proofs.Apart.{size-apart, count-apart, bound-apart}
 use Rattle.sizes.proofs.known.known_size.Kinds as known-size-kinds

@@ -1,4 +1,3 @@
-use mathlib.Core.Path.{refl}
 use Rattle.layers.proofs.Decide.{yes, no}
 use Rattle.layers.proofs.check.earliest.Statement.{statement}
 use Rattle.layers.proofs.check.earliest.Tie as tie

@@ -1,7 +1,5 @@
 use Prim.Native.Nat.{_-_, _≤_}
-use mathlib.Core.Path.{_≡_}
-use lib.ListN.{length, length-set}
-use native.Mathlib.Omega.{arith}
+use lib.ListN.{length}
 use borrow.Author.Needs.{needs}
 use Rattle.replay.proofs.read.numbers.Statement.{statement}
 use Rattle.replay.proofs.read.numbers.Tie as tie
