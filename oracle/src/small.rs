@@ -3,16 +3,6 @@
 use crate::types::words;
 use crate::words::*;
 
-const OUTERS: [u64; 8] = [
-    ARRAY,
-    NAMED,
-    SLICE,
-    SLICE_POINTER,
-    ENDLESS,
-    ARRAYLIKE,
-    POINTER,
-    VIEW,
-];
 const BIG: u64 = u64::MAX;
 const LAST_NAME: u64 = u32::MAX as u64;
 

@@ -44,16 +44,7 @@ fn any_type(random: &mut Random, layers: usize) -> Vec<Layer> {
     let outers: &[u64] = match random.below(3) {
         0 => &[POINTER, VIEW],
         1 => &[POINTER, VIEW, POINTER, VIEW, ARRAY, ARRAYLIKE],
-        _ => &[
-            ARRAY,
-            NAMED,
-            SLICE,
-            SLICE_POINTER,
-            ENDLESS,
-            ARRAYLIKE,
-            POINTER,
-            VIEW,
-        ],
+        _ => &OUTERS,
     };
     let mut all = Vec::new();
     for _ in 1..layers {
@@ -70,16 +61,7 @@ fn any_type(random: &mut Random, layers: usize) -> Vec<Layer> {
 
 /// A well-formed type of so many layers.
 fn wellformed_type(random: &mut Random, layers: usize) -> Vec<Layer> {
-    let mut outers: &[u64] = &[
-        ARRAY,
-        NAMED,
-        SLICE,
-        SLICE_POINTER,
-        ENDLESS,
-        ARRAYLIKE,
-        POINTER,
-        VIEW,
-    ];
+    let mut outers: &[u64] = &OUTERS;
     let mut all = Vec::new();
     for _ in 1..layers {
         let kind = random.pick(outers);

@@ -19,6 +19,18 @@ pub const UNRESOLVED: u64 = 22;
 pub const POINTER: u64 = 23;
 pub const VIEW: u64 = 24;
 
+/// The kinds that hold an inner type.
+pub const OUTERS: [u64; 8] = [
+    ARRAY,
+    NAMED,
+    SLICE,
+    SLICE_POINTER,
+    ENDLESS,
+    ARRAYLIKE,
+    POINTER,
+    VIEW,
+];
+
 pub type Layer = [u64; 3];
 
 /// A document's number and place.
