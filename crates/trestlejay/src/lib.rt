@@ -1,12 +1,11 @@
 // The C face: each public question as an exported function, as include/trestlejay.h declares it.
-mod flat;
 mod measures;
 mod pairs;
 mod properties;
 mod starts;
 mod uses;
 
-pub use flat::Answer;
+pub use answers::Answer;
 pub use measures::tj_known_size_in_bytes_as_word_member;
 pub use measures::tj_max_u128;
 pub use measures::tj_min_i128;

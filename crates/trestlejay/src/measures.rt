@@ -1,17 +1,16 @@
-use crate::flat;
-use crate::flat::Answer;
+use answers::Answer;
 ghost use mathlib.Core.Path.{_≡_};
 ghost use Rattle.sizes.specs.Known.{knownSizeAnswer};
 ghost use Rattle.sizes.specs.Depth.{pointerDepthAnswer};
 ghost use Rattle.sizes.specs.Bounds.{lowestAnswer, highestAnswer};
 ghost use Rattle.sizes.specs.Stored.{storedSizeAnswer};
-ghost use Rattle.trestlejay.specs.Flat as rules;
+ghost use Rattle.answers.specs.Flat as rules;
 
 #[no_mangle]
 pub extern "C" fn tj_pointer_depth(t: &[u64]) -> Answer
     ensures { λ r. ⌜ r ≡ rules.flat (pointerDepthAnswer (now (t .entry))) ⌝ }
 {
-    flat::count(sizes::pointer_depth(t))
+    answers::count(sizes::pointer_depth(t))
 }
 
 #[no_mangle]
@@ -19,7 +18,7 @@ pub extern "C" fn tj_known_size_in_bytes_as_word_member(t: &[u64], size: &mut u6
     ensures answer { λ r. ⌜ r ≡ rules.flatFound (knownSizeAnswer (now (t .entry))) ⌝ }
     ensures written { λ _. ⌜ now (size .exit) ≡ rules.foundAfter (knownSizeAnswer (now (t .entry))) (now (size .entry)) ⌝ }
 {
-    flat::size(sizes::known_size_in_bytes_as_word_member(t), size)
+    answers::size(sizes::known_size_in_bytes_as_word_member(t), size)
 }
 
 #[no_mangle]
@@ -27,7 +26,7 @@ pub extern "C" fn tj_stored_size(t: &[u64], size: &mut u64) -> Answer
     ensures answer { λ r. ⌜ r ≡ rules.flatFound (storedSizeAnswer (now (t .entry))) ⌝ }
     ensures written { λ _. ⌜ now (size .exit) ≡ rules.foundAfter (storedSizeAnswer (now (t .entry))) (now (size .entry)) ⌝ }
 {
-    flat::size(sizes::stored_size(t), size)
+    answers::size(sizes::stored_size(t), size)
 }
 
 #[no_mangle]
@@ -36,7 +35,7 @@ pub extern "C" fn tj_min_i128(t: &[u64], low: &mut u64, high: &mut u64) -> Answe
     ensures lower { λ _. ⌜ now (low .exit) ≡ rules.lowAfter (lowestAnswer (now (t .entry))) (now (low .entry)) ⌝ }
     ensures upper { λ _. ⌜ now (high .exit) ≡ rules.highAfter (lowestAnswer (now (t .entry))) (now (high .entry)) ⌝ }
 {
-    flat::bound(sizes::min_i128(t), low, high)
+    answers::bound(sizes::min_i128(t), low, high)
 }
 
 #[no_mangle]
@@ -45,5 +44,5 @@ pub extern "C" fn tj_max_u128(t: &[u64], low: &mut u64, high: &mut u64) -> Answe
     ensures lower { λ _. ⌜ now (low .exit) ≡ rules.lowAfter (highestAnswer (now (t .entry))) (now (low .entry)) ⌝ }
     ensures upper { λ _. ⌜ now (high .exit) ≡ rules.highAfter (highestAnswer (now (t .entry))) (now (high .entry)) ⌝ }
 {
-    flat::bound(sizes::max_u128(t), low, high)
+    answers::bound(sizes::max_u128(t), low, high)
 }

@@ -1,11 +1,11 @@
-use crate::flat::Answer;
-use crate::flat::verdict;
+use answers::Answer;
+use answers::verdict;
 use coercions::Coercion;
 use relations::Relation;
 ghost use mathlib.Core.Path.{_≡_};
 ghost use Rattle.relations.specs.Answers.{relationAnswer};
 ghost use Rattle.coercions.specs.Answers.{coercionAnswer};
-ghost use Rattle.trestlejay.specs.Flat.{flat};
+ghost use Rattle.answers.specs.Flat.{flat};
 
 #[no_mangle]
 pub extern "C" fn tj_identical(a: &[u64], b: &[u64]) -> Answer

@@ -1,12 +1,12 @@
-use crate::flat::Answer;
-use crate::flat::checked;
-use crate::flat::verdict;
+use answers::Answer;
+use answers::checked;
+use answers::verdict;
 use forms::Property;
 ghost use mathlib.Core.Path.{_≡_};
 ghost use Rattle.layers.specs.Check.{checkOf};
 ghost use Rattle.forms.specs.Formed.{wellFormedAnswer};
 ghost use Rattle.forms.specs.Properties.{propertyAnswer};
-ghost use Rattle.trestlejay.specs.Flat.{flat};
+ghost use Rattle.answers.specs.Flat.{flat};
 
 #[no_mangle]
 pub extern "C" fn tj_check(t: &[u64]) -> Answer

@@ -1,9 +1,9 @@
-use crate::flat::Answer;
-use crate::flat::start;
+use answers::Answer;
+use answers::start;
 use parts::Part;
 ghost use mathlib.Core.Path.{_≡_};
 ghost use Rattle.parts.specs.Starts.{startAnswer};
-ghost use Rattle.trestlejay.specs.Flat.{flat};
+ghost use Rattle.answers.specs.Flat.{flat};
 
 #[no_mangle]
 pub extern "C" fn tj_get_element_type(t: &[u64]) -> Answer

@@ -1,9 +1,9 @@
-use crate::flat::Answer;
-use crate::flat::verdict;
+use answers::Answer;
+use answers::verdict;
 use roles::Role;
 ghost use mathlib.Core.Path.{_≡_};
 ghost use Rattle.roles.specs.Roles.{roleAnswer};
-ghost use Rattle.trestlejay.specs.Flat.{flat};
+ghost use Rattle.answers.specs.Flat.{flat};
 
 #[no_mangle]
 pub extern "C" fn tj_can_be_sized(t: &[u64]) -> Answer

@@ -3,7 +3,7 @@ use Prim.Native.Nat.{ℕ}
 use Rattle.layers.specs.Answer as paper
 use Rattle.layers.specs.Answer.{given, nothing, refused}
 use Rattle.sizes.specs.declared.answers.Halves.{Halves}
-use Rattle.trestlejay.specs.declared.flat.Answer.{Answer}
+use Rattle.answers.specs.declared.flat.Answer.{Answer}
 
 -- Accepted, with a value.
 abbrev pub accepted : ℕ → Answer

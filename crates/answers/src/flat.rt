@@ -8,7 +8,7 @@ ghost use mathlib.Core.Path.{_≡_};
 ghost use Rattle.layers.specs.Answer.{ofChecked, ofVerdict};
 ghost use Rattle.parts.specs.Starts.{ofStart};
 ghost use Rattle.sizes.specs.Answer.{ofSize, ofCount, ofBound};
-ghost use Rattle.trestlejay.specs.Flat as rules;
+ghost use Rattle.answers.specs.Flat as rules;
 
 // An answer as C has it: the refusal's number, or 0; and the value, or the refusal's place.
 #[repr(C)]
@@ -17,13 +17,13 @@ pub struct Answer {
     pub value: u64,
 }
 
-fn accepted(value: u64) -> Answer
+pub fn accepted(value: u64) -> Answer
     ensures { λ r. ⌜ r ≡ rules.accepted value ⌝ }
 {
     Answer { refusal: 0, value }
 }
 
-fn refused(number: u64, place: u64) -> Answer
+pub fn refused(number: u64, place: u64) -> Answer
     ensures { λ r. ⌜ r ≡ rules.notAccepted number place ⌝ }
 {
     Answer {
@@ -32,7 +32,7 @@ fn refused(number: u64, place: u64) -> Answer
     }
 }
 
-pub(crate) fn checked(c: Checked) -> Answer
+pub fn checked(c: Checked) -> Answer
     ensures { λ r. ⌜ r ≡ rules.flat (ofChecked c) ⌝ }
 {
     match c {
@@ -41,7 +41,7 @@ pub(crate) fn checked(c: Checked) -> Answer
     }
 }
 
-pub(crate) fn verdict(v: Verdict) -> Answer
+pub fn verdict(v: Verdict) -> Answer
     ensures { λ r. ⌜ r ≡ rules.flat (ofVerdict v) ⌝ }
 {
     match v {
@@ -51,7 +51,7 @@ pub(crate) fn verdict(v: Verdict) -> Answer
     }
 }
 
-pub(crate) fn start(s: Start) -> Answer
+pub fn start(s: Start) -> Answer
     ensures { λ r. ⌜ r ≡ rules.flat (ofStart s) ⌝ }
 {
     match s {
@@ -61,7 +61,7 @@ pub(crate) fn start(s: Start) -> Answer
     }
 }
 
-pub(crate) fn count(c: Count) -> Answer
+pub fn count(c: Count) -> Answer
     ensures { λ r. ⌜ r ≡ rules.flat (ofCount c) ⌝ }
 {
     match c {
@@ -71,7 +71,7 @@ pub(crate) fn count(c: Count) -> Answer
 }
 
 // The size goes where it was lent; without a size, what stood there stays.
-pub(crate) fn size(s: Size, out: &mut u64) -> Answer
+pub fn size(s: Size, out: &mut u64) -> Answer
     ensures answer { λ r. ⌜ r ≡ rules.flatFound (ofSize s) ⌝ }
     ensures written { λ _. ⌜ now (out .exit) ≡ rules.foundAfter (ofSize s) (now (out .entry)) ⌝ }
 {
@@ -85,7 +85,7 @@ pub(crate) fn size(s: Size, out: &mut u64) -> Answer
     }
 }
 
-pub(crate) fn bound(b: Bound, low: &mut u64, high: &mut u64) -> Answer
+pub fn bound(b: Bound, low: &mut u64, high: &mut u64) -> Answer
     ensures answer { λ r. ⌜ r ≡ rules.flatHalves (ofBound b) ⌝ }
     ensures lower { λ _. ⌜ now (low .exit) ≡ rules.lowAfter (ofBound b) (now (low .entry)) ⌝ }
     ensures upper { λ _. ⌜ now (high .exit) ≡ rules.highAfter (ofBound b) (now (high .entry)) ⌝ }

@@ -1,7 +1,7 @@
 use borrow.Author.Needs.{needs}
-use Rattle.trestlejay.specs.Flat as rules
-use Rattle.trestlejay.proofs.flat.bound.Statement.{statement}
-use Rattle.trestlejay.proofs.flat.bound.Tie as tie
+use Rattle.answers.specs.Flat as rules
+use Rattle.answers.proofs.flat.bound.Statement.{statement}
+use Rattle.answers.proofs.flat.bound.Tie as tie
 
 pub bound-spec : {M : Type 1} → statement M
 unfolding rules.flatHalves rules.lowAfter rules.highAfter

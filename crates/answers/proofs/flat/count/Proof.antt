@@ -1,7 +1,7 @@
 use borrow.Author.Needs.{needs}
-use Rattle.trestlejay.specs.Flat as rules
-use Rattle.trestlejay.proofs.flat.count.Statement.{statement}
-use Rattle.trestlejay.proofs.flat.count.Tie as tie
+use Rattle.answers.specs.Flat as rules
+use Rattle.answers.proofs.flat.count.Statement.{statement}
+use Rattle.answers.proofs.flat.count.Tie as tie
 
 pub count-spec : {M : Type 1} → statement M
 unfolding rules.flat

@@ -1,11 +1,11 @@
 use borrow.Author.Needs.{needs}
-use Rattle.trestlejay.specs.Flat as rules
-use Rattle.trestlejay.proofs.flat.verdict.Statement.{statement}
-use Rattle.trestlejay.proofs.flat.verdict.Tie as tie
+use Rattle.answers.specs.Flat as rules
+use Rattle.answers.proofs.flat.start.Statement.{statement}
+use Rattle.answers.proofs.flat.start.Tie as tie
 
-pub verdict-spec : {M : Type 1} → statement M
+pub start-spec : {M : Type 1} → statement M
 unfolding rules.flat
-verdict-spec =
+start-spec =
     tie.close
     (tie.spec
     (λ c. search needs)

@@ -1,0 +1,13 @@
+// One record of a symbol table. Slot k's type stands in the store from word 48 k on.
+#[repr(C)]
+pub struct Symbol {
+    pub id: u32,
+    pub authority: bool,
+    pub place: u64,
+    // 0 free, 1 typed, 2 poisoned
+    pub state: u64,
+    // of the stored type
+    pub layers: u64,
+    // of the poison
+    pub mark: u64,
+}
