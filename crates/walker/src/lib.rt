@@ -1,0 +1,1 @@
+// The plain walker: what one step does, and nothing of rounds, targets or settling.
