@@ -4,3 +4,4 @@ pub mod Walks
 pub mod Sound
 pub mod Settles
 pub mod Arrives
+pub mod Table
