@@ -3,6 +3,7 @@ mod lines;
 mod lone;
 mod record;
 
+pub use lone::do_update_symbol;
 pub use lone::update_lone;
 pub use record::Updated;
 pub use record::update;

@@ -1,6 +1,7 @@
 use crate::record::Updated;
 use crate::record::stored;
 use crate::record::update;
+use answers::Answer;
 use answers::refused;
 use layers::Checked;
 use layers::check_type;
@@ -51,8 +52,8 @@ pub fn update_lone(
     place: u64,
     offered: &[u64],
 ) -> Updated
-    ensures answer { λ r. ⌜ r ≡ rules.loneUpdated s (now (words .entry)) id authority place (now (offered .entry)) ⌝ }
-    ensures written { λ _. ⌜ now (words .exit) ≡ rules.loneWordsAfter s (now (words .entry)) authority (now (offered .entry)) ⌝ }
+    ensures { λ r. ⌜ (r ≡ rules.loneUpdated s (now (words .entry)) id authority place (now (offered .entry)))
+        × (now (words .exit) ≡ rules.loneWordsAfter s (now (words .entry)) authority (now (offered .entry))) ⌝ }
 {
     match check_type(offered) {
         Checked::Refused { number, place: at } => Updated {
@@ -70,4 +71,23 @@ pub fn update_lone(
             }
         }
     }
+}
+
+// The same, of a symbol that is lent.
+pub fn do_update_symbol(
+    symbol: &mut Symbol,
+    words: &mut [u64],
+    id: u32,
+    authority: bool,
+    place: u64,
+    offered: &[u64],
+) -> Answer
+    ensures { λ r. ⌜ (r ≡ rules.loneUpdated (now (symbol .entry)) (now (words .entry)) id authority place (now (offered .entry)) .answer)
+        × (now (symbol .exit) ≡ rules.loneUpdated (now (symbol .entry)) (now (words .entry)) id authority place (now (offered .entry)) .symbol)
+        × (now (words .exit) ≡ rules.loneWordsAfter (now (symbol .entry)) (now (words .entry)) authority (now (offered .entry))) ⌝ }
+{
+    let s = *symbol;
+    let u = update_lone(s, words, id, authority, place, offered);
+    *symbol = u.symbol;
+    u.answer
 }
