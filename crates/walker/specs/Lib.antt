@@ -1,1 +1,2 @@
 pub mod Walker
+pub mod Members
