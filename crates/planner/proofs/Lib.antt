@@ -4,4 +4,5 @@ pub mod Walks
 pub mod Sound
 pub mod Settles
 pub mod Arrives
+pub mod Going
 pub mod Table

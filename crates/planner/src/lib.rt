@@ -1,1 +1,4 @@
 // The planner.
+mod report;
+
+pub use report::Report;
