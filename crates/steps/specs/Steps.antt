@@ -1,9 +1,9 @@
 -- How a step is written, and which runs of words are runs of steps.
 use mathlib.Core.Bool.{Bool, true, cond, not, _&&_, _||_}
-use mathlib.Core.List.{List, [], _∷_}
-use Prim.Native.Nat.{ℕ, _/_, _%_, _-_, _*_, _^_}
+use mathlib.Core.List.{List, [], _∷_, _++_}
+use Prim.Native.Nat.{ℕ, _+_, _/_, _%_, _-_, _^_}
 use lib.Dec.{eqb, leb}
-use lib.ListN.{length}
+use lib.ListN.{length, take, drop}
 use Rattle.layers.specs.Answer.{Answer, given, refused}
 use Rattle.steps.specs.StepKind as kind
 
@@ -28,6 +28,10 @@ unfoldable pub stepWords : List Step → List ℕ
 stepWords [] = []
 stepWords (s ∷ ss) = s .kind ∷ s .handle ∷ s .mark ∷ s .number ∷ stepWords ss
 
+-- A step's words over those from a place on; the run itself where they do not fit.
+unfoldable pub putStep : Step → ℕ → List ℕ → List ℕ
+putStep s at b = cond (leb (at + 4) (length b)) (take at b ++ stepWords (s ∷ []) ++ drop (at + 4) b) b
+
 -- "handles u32"
 abbrev pub isHandle : ℕ → Bool
 isHandle h = leb h (2 ^ 32 - 1)
@@ -48,4 +52,4 @@ goodSteps (s ∷ ss) = goodStep s && goodSteps ss
 -- "5 bad ... step, step count": of at most so many steps, how many they are.
 unfoldable pub stepsAnswer : ℕ → List ℕ → Answer ℕ
 stepsAnswer most ws =
-    cond (eqb (length ws % 4) 0 && leb (length ws) (most * 4) && goodSteps (steps ws)) (given (length ws / 4)) (refused 5 0)
+    cond (eqb (length ws % 4) 0 && leb (length ws / 4) most && goodSteps (steps ws)) (given (length ws / 4)) (refused 5 0)
