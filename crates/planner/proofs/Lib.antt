@@ -5,4 +5,6 @@ pub mod Sound
 pub mod Settles
 pub mod Arrives
 pub mod Going
+pub mod Reading
+pub mod Pushing
 pub mod Table

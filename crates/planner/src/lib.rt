@@ -1,4 +1,5 @@
 // The planner.
 mod report;
+mod round;
 
 pub use report::Report;
