@@ -1,6 +1,7 @@
 -- What the proofs of several functions use.
 pub mod Decide
 pub mod Words
+pub mod Spelling
 pub mod Table
 pub mod Within
 pub mod Checks

@@ -4,4 +4,7 @@ pub mod Walks
 pub mod Sound
 pub mod Settles
 pub mod Arrives
+pub mod Going
+pub mod Reading
+pub mod Pushing
 pub mod Table

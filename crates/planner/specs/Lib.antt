@@ -1,3 +1,5 @@
 pub mod Walk
 pub mod Plan
 pub mod Demand
+pub mod Rounds
+pub mod Report

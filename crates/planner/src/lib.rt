@@ -1,1 +1,5 @@
 // The planner.
+mod report;
+mod round;
+
+pub use report::Report;
