@@ -1,12 +1,12 @@
 -- What one step does, by what the code decided.
 -- Assumes nothing.
 use mathlib.Core.Path.{_≡_, refl, sym, ap, _∙_}
-use mathlib.Core.Bool.{Bool, true, false, cond, _&&_, _||_, and-true, and-false}
+use mathlib.Core.Bool.{Bool, true, false, cond, _&&_, _||_, and-true, and-false, false≢true}
 use mathlib.Core.List.{List, [], _∷_}
 use Prim.Native.Nat.{ℕ, _≤_, _<_}
 use native.Mathlib.Omega.{arith}
 use lib.Dec.{eqb, leb}
-use lib.ListN.{length, take, drop}
+use lib.ListN.{length, take, drop, length-drop}
 use borrow.Author.Tests.{eq-eqb, ne-eqb, eqb-true, leb-true, leb-false}
 use Rattle.kinds.specs.Kind as kind
 use Rattle.layers.specs.Layers.{Layer, layers, outer, inside, isArray, isReference}
@@ -16,7 +16,7 @@ use Rattle.steps.specs.StepKind as of-step
 use Rattle.steps.specs.Steps.{Step}
 use Rattle.walker.specs.Walker.{Where, at, stuck, Stored, toStored, element, member, autodeslice, autoderef, autoview, act}
 use Rattle.walker.specs.Members.{memberIn, askedIn, ofLayers}
-use Rattle.walker.specs.Moves.{onElement, onMember, onAutodeslice, takesOff, moveOf, seen, onward, desliced, moved}
+use Rattle.walker.specs.Moves.{onElement, onMember, onAutodeslice, takesOff, moveOf, seen, onward, desliced, sticks, moved, Whole, Current}
 use Rattle.walker.specs.declared.moves.Move.{Move}
 use Rattle.walker.specs.declared.moves.Move.the-variants.{Stuck, Inside, TwoInside, Deslice, Member}
 
@@ -92,19 +92,19 @@ module _ (ws m : List ℕ) (b : Bool) where
   by-test false x y p q g h = h
 
   on-stuck : stuck ≡ moved Stuck ws m
-  unfolding moved
+  unfolding moved sticks
   on-stuck = refl
 
   on-inside : at (inside t) ≡ moved Inside ws m
-  unfolding moved onward desliced seen
+  unfolding moved sticks onward desliced seen
   on-inside = ap at (seen-inside ws b)
 
   on-two-inside : at (inside (inside t)) ≡ moved TwoInside ws m
-  unfolding moved onward desliced seen
+  unfolding moved sticks onward desliced seen
   on-two-inside = ap (λ (u : List Layer). at (inside u)) (seen-inside ws b) ∙ ap at (sym (inner-layers (drop 3 ws)))
 
   on-deslice : at (record { kind = kind.arraylike; name = 0; number = 0 } ∷ inside t) ≡ moved Deslice ws m
-  unfolding moved onward desliced seen
+  unfolding moved sticks onward desliced seen
   on-deslice = ap (λ (u : List Layer). at (record { kind = kind.arraylike; name = 0; number = 0 } ∷ u)) (seen-inside ws b ∙ inner-layers ws)
 
   on-element : element t ≡ moved (onElement (outer t) l) ws m
@@ -114,7 +114,7 @@ module _ (ws m : List ℕ) (b : Bool) where
       ∙ by-test (isReference (outer t) && eqb l kind.arraylike) _ _ _ _ (λ e. on-two-inside) on-stuck)
 
   on-member : member (ofLayers (layers m)) t ≡ moved (onMember (outer t) (leb 3 (length m))) ws m
-  unfolding moved onward desliced seen
+  unfolding moved sticks onward desliced seen
   on-member = by-words (leb 3 (length m)) refl
     where
       k : Bool
@@ -143,3 +143,44 @@ module _ (ws m : List ℕ) (b : Bool) where
       (by-test (eqb (s .kind) 2) _ _ _ _ (λ e. by-test (eqb (outer t) kind.slice && eqb (s .mark) of-step.byView || eqb (outer t) kind.slicePointer && eqb (s .mark) of-step.byPointer) _ _ _ _ (λ _. on-deslice) on-stuck)
       (by-test (eqb (s .kind) 3) _ _ _ _ (λ e. by-test (eqb (outer t) kind.pointer) _ _ _ _ (λ _. on-inside) on-stuck)
       (by-test (eqb (s .kind) 4) _ _ _ _ (λ e. by-test (eqb (outer t) kind.view) _ _ _ _ (λ _. on-inside) on-stuck) on-stuck))))
+
+-- only a slice is desliced
+abbrev slices : ℕ → ℕ → Bool
+slices k mark = eqb k kind.slice && eqb mark of-step.byView || eqb k kind.slicePointer && eqb mark of-step.byPointer
+
+by-outcome : {Q : Type 0} (f : Bool) (x y : Move) → (f ≡ true → x ≡ Deslice → Q) → (y ≡ Deslice → Q) → cond f x y ≡ Deslice → Q
+by-outcome true x y g h e = g refl e
+by-outcome false x y g h e = h e
+
+deslices : (s mark k l : ℕ) (there : Bool) → moveOf s mark k l there ≡ Deslice → slices k mark ≡ true
+unfolding moveOf
+deslices s mark k l there =
+    by-outcome (eqb s 0) _ _ (λ _. by-outcome (isArray k) _ _ (λ _ e. cc) (by-outcome (isReference k && eqb l kind.arraylike) _ _ (λ _ e. cc) (λ e. cc)))
+    (by-outcome (eqb s 1) _ _ (λ _. by-outcome ((eqb k kind.struct || eqb k kind.word) && there) _ _ (λ _ e. cc) (λ e. cc))
+    (by-outcome (eqb s 2) _ _ (λ _. by-outcome (slices k mark) _ _ (λ f e. f) (λ e. cc))
+    (by-outcome (eqb s 3) _ _ (λ _. by-outcome (eqb k kind.pointer) _ _ (λ _ e. cc) (λ e. cc))
+    (by-outcome (eqb s 4) _ _ (λ _. by-outcome (eqb k kind.view) _ _ (λ _ e. cc) (λ e. cc)) (λ e. cc)))))
+
+no-slice : (ws : List ℕ) (b : Bool) (mark : ℕ) → length ws < 3 → slices (outer (seen ws b)) mark ≡ false
+unfolding seen outer
+no-slice ws true mark h = refl
+no-slice ws false mark h = rw (none ws h)
+
+-- whole layers stay whole
+drop-whole : (ws : List ℕ) → Whole ws → Whole (drop 3 ws)
+drop-whole ws w = (simp length-drop (omega (arith, w .0)), simp length-drop (omega (arith, w .1)))
+
+pub moves-on : (ws m : List ℕ) (b : Bool) (s mark l : ℕ) (there : Bool) (x : Move) → x ≡ moveOf s mark (outer (seen ws b)) l there →
+    Whole ws → Whole m → Current (onward x ws m) (desliced x)
+unfolding onward desliced
+moves-on ws m b s mark l there Stuck e w v = (w, λ f. absurd (false≢true f))
+moves-on ws m b s mark l there Inside e w v = (drop-whole ws w, λ f. absurd (false≢true f))
+moves-on ws m b s mark l there TwoInside e w v = (drop-whole (drop 3 ws) (drop-whole ws w), λ f. absurd (false≢true f))
+moves-on ws m b s mark l there Member e w v = (v, λ f. absurd (false≢true f))
+moves-on ws m b s mark l there Deslice e w v = (w, λ f. by-length (leb 3 (length ws)) refl)
+  where
+    by-length : (f : Bool) → leb 3 (length ws) ≡ f → 3 ≤ length ws
+    by-length true f = leb-true 3 (length ws) f
+    by-length false f =
+        let slice : slices (outer (seen ws b)) mark ≡ true = deslices s mark (outer (seen ws b)) l there (sym e) in
+        absurd (false≢true (sym (no-slice ws b mark (leb-false 3 (length ws) f)) ∙ slice))

@@ -17,6 +17,8 @@ use Rattle.walker.proofs.moves.kind_of.Kinds as kind-of-kinds
 use Rattle.walker.proofs.moves.kind_of.Reads as kind-of
 use Rattle.walker.proofs.moves.go.Kinds as go-kinds
 use Rattle.walker.proofs.moves.go.Reads as go
+use Rattle.walker.proofs.moves.is_stuck.Kinds as is-stuck-kinds
+use Rattle.walker.proofs.moves.is_stuck.Reads as is-stuck
 use Rattle.walker.proofs.moves.is_desliced.Kinds as is-desliced-kinds
 use Rattle.walker.proofs.moves.is_desliced.Reads as is-desliced
 
@@ -41,3 +43,6 @@ go-single κs a x y s t p q = p ∙ sym q
 
 pub is-desliced-single : Single 0 is-desliced-kinds.ps is-desliced-kinds.r is-desliced.Post
 is-desliced-single κs a x y s t p q = p ∙ sym q
+
+pub is-stuck-single : Single 0 is-stuck-kinds.ps is-stuck-kinds.r is-stuck.Post
+is-stuck-single κs a x y s t p q = p ∙ sym q

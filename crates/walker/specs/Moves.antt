@@ -1,8 +1,10 @@
 -- One step of the walker on numbers and words, as the code takes it.
+use mathlib.Core.Path.{_≡_}
 use mathlib.Core.Bool.{Bool, true, false, cond, _&&_, _||_}
 use mathlib.Core.List.{List, _∷_}
-use Prim.Native.Nat.{ℕ}
+use Prim.Native.Nat.{ℕ, _%_, _≤_}
 use lib.Dec.{eqb}
+use lib.ListN.{length}
 use Rattle.kinds.specs.Kind as kind
 use Rattle.layers.specs.Layers.{Layer, layer, layers, inside, innerWords, isArray, isReference}
 use Rattle.steps.specs.StepKind as of-step
@@ -52,10 +54,20 @@ desliced TwoInside = false
 desliced Deslice = true
 desliced Member = false
 
+unfoldable pub sticks : Move → Bool
+sticks Stuck = true
+sticks Inside = false
+sticks TwoInside = false
+sticks Deslice = false
+sticks Member = false
+
 -- Where the walker is then.
 unfoldable pub moved : Move → List ℕ → List ℕ → Where
-moved Stuck ws stored = stuck
-moved Inside ws stored = at (seen (onward Inside ws stored) (desliced Inside))
-moved TwoInside ws stored = at (seen (onward TwoInside ws stored) (desliced TwoInside))
-moved Deslice ws stored = at (seen (onward Deslice ws stored) (desliced Deslice))
-moved Member ws stored = at (seen (onward Member ws stored) (desliced Member))
+moved m ws stored = cond (sticks m) stuck (at (seen (onward m ws stored) (desliced m)))
+
+-- Words of whole layers, at most sixteen; and, where the flag is set, of at least one.
+abbrev pub Whole : List ℕ → Type 0
+Whole ws = (length ws ≤ 48) × (length ws % 3 ≡ 0)
+
+abbrev pub Current : List ℕ → Bool → Type 0
+Current ws b = Whole ws × (b ≡ true → 3 ≤ length ws)

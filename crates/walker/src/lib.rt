@@ -7,5 +7,6 @@ pub use members::member;
 pub use moves::Move;
 pub use moves::go;
 pub use moves::is_desliced;
+pub use moves::is_stuck;
 pub use moves::kind_of;
 pub use moves::move_of;

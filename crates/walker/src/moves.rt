@@ -120,6 +120,19 @@ pub fn go<'a>(m: Move, cur: &'a [u64], stored: &'a [u64]) -> &'a [u64]
     }
 }
 
+pub fn is_stuck(m: Move) -> bool
+    ensures { λ r. ⌜ r ≡ rules.sticks m ⌝ }
+{
+    match m {
+        Move::Stuck => true,
+        Move::Inside => false,
+        Move::TwoInside => false,
+        Move::Deslice => false,
+        Move::Member => false,
+    }
+}
+
+// Whether the outer layer counts as Arraylike after a move.
 pub fn is_desliced(m: Move) -> bool
     ensures { λ r. ⌜ r ≡ rules.desliced m ⌝ }
 {
