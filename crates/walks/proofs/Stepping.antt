@@ -40,7 +40,7 @@ pub record Reached (columns known ws store : List ℕ) (n : ℕ) (cur : List ℕ
   pub within : word ≤ length ws
   pub current : Current cur b
   pub same : walkedFrom (members (readFrom columns 0 n) store) (word / 4) (steps (drop word ws)) (seen cur b)
-    ≡ walkedFrom (members (readFrom columns 0 n) store) 0 (steps ws) (layers known)
+      ≡ walkedFrom (members (readFrom columns 0 n) store) 0 (steps ws) (layers known)
 
 pub start : (columns known ws store : List ℕ) (n : ℕ) → Whole known → length ws % 4 ≡ 0 → Reached columns known ws store n known false 0
 unfolding seen
@@ -115,34 +115,51 @@ module _ (columns known ws store : List ℕ) (n : ℕ) (address : Bool) (out : L
   tells-arrived cur out′ b word r h t =
       rw (← r .same, drop-of-length-le ws h, steps-none [] (omega arith)) t
 
--- by what the checks said
-module _ (known ws store out : List ℕ) (address : Bool) (table : List Symbol) (a : Answer) where
-  pub not-ordered : (f : Bool) → f ≡ inOrder table store → f ≡ false → a ≡ notAccepted 12 0 → Tells (walkOrdered known ws address table store) out a out
-  unfolding walkOrdered delivered over flat
-  not-ordered f e t q = rw (← e, t) (q, refl)
+-- the same answer is told
+module _ (out : List ℕ) (a : Answer) (v w : paper.Answer (List Layer)) where
+  pub tells-same : (out′ : List ℕ) → Tells v out a out′ → v ≡ w → Tells w out a out′
+  tells-same out′ t e = rw (← e) t
 
-  pub is-ordered : (out′ : List ℕ) (f : Bool) → f ≡ inOrder table store → f ≡ true → Tells (walkFrom known ws address table store) out a out′ →
-      Tells (walkOrdered known ws address table store) out a out′
-  unfolding walkOrdered
-  is-ordered out′ f e t q = rw (← e, t) q
+pub tells-refused : (out : List ℕ) (a : Answer) (w : paper.Answer (List Layer)) (n p : ℕ) → a ≡ notAccepted n p → refused n p ≡ w → Tells w out a out
+unfolding delivered over flat
+tells-refused out a w n p q e = rw (← e) (q, refl)
+
+-- by what the checks said
+module _ (known ws store : List ℕ) (address : Bool) (table : List Symbol) where
+  module _ (f : Bool) (e : f ≡ inOrder table store) where
+    pub not-ordered : f ≡ false → refused 12 0 ≡ walkOrdered known ws address table store
+    unfolding walkOrdered
+    not-ordered t = rw (← e, t)
+
+    pub is-ordered : f ≡ true → walkFrom known ws address table store ≡ walkOrdered known ws address table store
+    unfolding walkOrdered
+    is-ordered t = rw (← e, t)
 
   module _ (x : Checked) (e : ofChecked x ≡ checkOf known) where
-    pub no-type : (n p : ℕ) → x ≡ Refused n p → a ≡ notAccepted n p → Tells (walkTo known ws address table store) out a out
-    unfolding walkTo delivered over flat
-    no-type n p t q = rw (← e, t) (q, refl)
+    pub no-type : (n p : ℕ) → x ≡ Refused n p → refused n p ≡ walkTo known ws address table store
+    unfolding walkTo
+    no-type n p t = rw (← e, t)
 
     module _ (i : ℕ) (t : x ≡ Good i) (y : Checked) (f : ofChecked y ≡ stepsAnswer 128 ws) where
-      pub no-steps : (n p : ℕ) → y ≡ Refused n p → a ≡ notAccepted n p → Tells (walkTo known ws address table store) out a out
-      unfolding walkTo delivered over flat
-      no-steps n p u q = rw (← e, t, ← f, u) (q, refl)
-
-      pub good-words : (j : ℕ) → y ≡ Good j → Whole known × (length ws % 4 ≡ 0)
-      good-words j u =
-          let good : isGood (checkOf known) ≡ true = rw (← e, t) refl in
-          let given-steps : stepsAnswer 128 ws ≡ given j = sym f ∙ ap ofChecked u in
-          (good-whole known good, steps-whole 128 ws j given-steps)
-
-      pub checked : (out′ : List ℕ) (j : ℕ) → y ≡ Good j → Tells (walkOrdered known ws address table store) out a out′ →
-          Tells (walkTo known ws address table store) out a out′
+      pub no-steps : (n p : ℕ) → y ≡ Refused n p → refused n p ≡ walkTo known ws address table store
       unfolding walkTo
-      checked out′ j u q = rw (← e, t, ← f, u) q
+      no-steps n p u = rw (← e, t, ← f, u)
+
+      pub checked : (j : ℕ) → y ≡ Good j → walkOrdered known ws address table store ≡ walkTo known ws address table store
+      unfolding walkTo
+      checked j u = rw (← e, t, ← f, u)
+
+-- words that pass
+module _ (x : Checked) (ws : List ℕ) (i : ℕ) (t : x ≡ Good i) where
+  module _ (e : ofChecked x ≡ checkOf ws) where
+    type-whole : Whole ws
+    type-whole = let good : isGood (checkOf ws) ≡ true = rw (← e, t) refl in good-whole ws good
+
+    pub type-few : length ws ≤ 48
+    type-few = type-whole .0
+
+    pub type-threes : length ws % 3 ≡ 0
+    type-threes = type-whole .1
+
+  pub steps-fours : ofChecked x ≡ stepsAnswer 128 ws → length ws % 4 ≡ 0
+  steps-fours e = steps-whole 128 ws i (sym e ∙ ap ofChecked t)
