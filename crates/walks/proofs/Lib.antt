@@ -2,3 +2,4 @@
 pub mod Arriving
 pub mod Stepping
 pub mod Theorems
+pub mod Single
