@@ -2,3 +2,5 @@
 pub mod Given
 pub mod Cases
 pub mod Lines
+pub mod Decided
+pub mod Single

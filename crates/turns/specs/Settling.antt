@@ -1,4 +1,5 @@
 -- "Settle current c, target t, depth n, first that applies".
+use mathlib.Core.Path.{_≡_}
 use mathlib.Core.Bool.{Bool, true, false, cond, _&&_}
 use mathlib.Core.List.{List, [], _∷_, _++_}
 use Prim.Native.Nat.{ℕ, zero, suc, _+_, _-_}
@@ -13,6 +14,8 @@ use Rattle.relations.specs.Relations.{identical}
 use Rattle.coercions.specs.Coercions.{coerces, addressCoerces}
 use Rattle.steps.specs.StepKind as of-step
 use Rattle.steps.specs.Steps.{Step, step}
+use Rattle.turns.specs.declared.settlement.Settling.{Settling}
+use Rattle.turns.specs.declared.settlement.Settling.the-variants as settling
 
 -- What the settling adds to a walk: further steps, the reported type, and two flags.
 pub record Settled : Type 0 where
@@ -64,3 +67,15 @@ settle c t n =
     -- "(vi) n>0, c address coerces into t: address, coerced."
     (cond (ltb 0 n && addressCoerces c t) (given (byAddress c true))
     (settleOtherwise c n (pointerDepth c)))))))
+
+-- What each outcome of the code is, of the current type c, the target t and the depth n.
+abbrev pub ofSettling : Settling → List Layer → List Layer → ℕ → Answer Settled
+ofSettling (settling.Kept b) c t n = given (settled [] c false b)
+ofSettling settling.Viewed c t n = given (settled (step of-step.autoview 0 0 0 ∷ []) t false false)
+ofSettling (settling.Addressed b) c t n = given (byAddress c b)
+ofSettling settling.Dereferenced c t n = given (dereferenced c n (pointerDepth c))
+ofSettling (settling.Refused k) c t n = refused k 0
+
+-- What the last line promises, whatever the target is.
+abbrev pub Otherwise : Settling → List Layer → ℕ → Type 0
+Otherwise r c n = (t : List Layer) → ofSettling r c t n ≡ settleOtherwise c n (pointerDepth c)
