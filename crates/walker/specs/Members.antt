@@ -2,10 +2,11 @@
 use mathlib.Core.Bool.{cond}
 use mathlib.Core.List.{List, [], _∷_}
 use Prim.Native.Nat.{ℕ, _*_}
+use lib.Dec.{ltb}
 use lib.ListN.{take, drop, getD}
 use Rattle.layers.specs.Layers.{Layer, layers}
 use Rattle.tables.specs.declared.symbol.Symbol.{Symbol}
-use Rattle.tables.specs.Rows.{vacant}
+use Rattle.tables.specs.Rows.{vacant, readFrom}
 use Rattle.tables.specs.Order.{typed, slotFor}
 use Rattle.walker.specs.Walker as walker
 use Rattle.walker.specs.Walker.{Stored}
@@ -17,6 +18,10 @@ wordsAt s ws = cond (typed s) (take (s .layers * 3) ws) []
 -- The words of the type that is stored under an id; none where it is absent or poisoned.
 unfoldable pub memberWords : List Symbol → List ℕ → ℕ → List ℕ
 memberWords table store id = wordsAt (getD table (slotFor id table) vacant) (drop (slotFor id table * 48) store)
+
+-- The same of columns: of more than 128 rows, none.
+unfoldable pub memberIn : List ℕ → ℕ → List ℕ → ℕ → List ℕ
+memberIn ws n store id = cond (ltb 128 n) [] (memberWords (readFrom ws 0 n) store id)
 
 abbrev pub ofLayers : List Layer → Stored
 ofLayers [] = walker.absent

@@ -1,0 +1,2 @@
+-- What the proofs of several functions use, and what follows from the definitions.
+pub mod Storing
