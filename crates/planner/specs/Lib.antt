@@ -2,4 +2,5 @@ pub mod Walk
 pub mod Plan
 pub mod Demand
 pub mod Rounds
+pub mod Ending
 pub mod Report

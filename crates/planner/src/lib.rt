@@ -1,4 +1,5 @@
 // The planner.
+mod ending;
 mod report;
 mod round;
 
