@@ -7,4 +7,5 @@ pub mod Arrives
 pub mod Going
 pub mod Reading
 pub mod Pushing
+pub mod Delivering
 pub mod Table

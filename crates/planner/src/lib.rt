@@ -1,4 +1,5 @@
 // The planner.
+mod deliver;
 mod ending;
 mod report;
 mod round;
