@@ -8,4 +8,5 @@ pub mod Going
 pub mod Reading
 pub mod Pushing
 pub mod Delivering
+pub mod Finishing
 pub mod Table

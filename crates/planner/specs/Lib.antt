@@ -3,4 +3,5 @@ pub mod Plan
 pub mod Demand
 pub mod Rounds
 pub mod Ending
+pub mod Finish
 pub mod Report

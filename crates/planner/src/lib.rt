@@ -1,6 +1,7 @@
 // The planner.
 mod deliver;
 mod ending;
+mod finish;
 mod report;
 mod round;
 
