@@ -9,4 +9,6 @@ pub mod Reading
 pub mod Pushing
 pub mod Delivering
 pub mod Finishing
+pub mod Turning
+pub mod Outcomes
 pub mod Table

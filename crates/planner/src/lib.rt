@@ -4,5 +4,6 @@ mod ending;
 mod finish;
 mod report;
 mod round;
+mod walk;
 
 pub use report::Report;
