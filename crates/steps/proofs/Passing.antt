@@ -32,10 +32,10 @@ module _ (k h m n : ℕ) where
   of-auto a b c = rw (ne-eqb k 0 a, ne-eqb k 1 b, ne-eqb k 2 c)
 
 -- the step that starts at a word
-abbrev here : List ℕ → ℕ → Step
+abbrev pub here : List ℕ → ℕ → Step
 here ws i = step (getD ws i 0) (getD ws (i + 1) 0) (getD ws (i + 2) 0) (getD ws (i + 3) 0)
 
-at-word : (ws : List ℕ) (i : ℕ) → i + 4 ≤ length ws → steps (drop i ws) ≡ here ws i ∷ steps (drop (i + 4) ws)
+pub at-word : (ws : List ℕ) (i : ℕ) → i + 4 ≤ length ws → steps (drop i ws) ≡ here ws i ∷ steps (drop (i + 4) ws)
 at-word ws i h =
     let enough : 4 ≤ length (drop i ws) = simp length-drop (omega arith) in
     let zero : i + 0 ≡ i = omega arith in
@@ -99,3 +99,13 @@ module _ (most : ℕ) (ws : List ℕ) where
     unfolding stepsAnswer goodSteps
     fine h =
         rw (← i .good, drop-of-length-le ws h, steps-none [] (omega arith), eq-eqb (length ws % 4) 0 (i .whole), le-leb (length ws / 4) most (i .few))
+
+-- words that are steps are whole steps
+pub steps-whole : (most : ℕ) (ws : List ℕ) (j : ℕ) → stepsAnswer most ws ≡ given j → length ws % 4 ≡ 0
+unfolding stepsAnswer
+steps-whole most ws j e = by-test (eqb (length ws % 4) 0) refl e
+  where
+    by-test : (f : Bool) → eqb (length ws % 4) 0 ≡ f →
+        cond (f && leb (length ws / 4) most && goodSteps (steps ws)) (given (length ws / 4)) (refused 5 0) ≡ given j → length ws % 4 ≡ 0
+    by-test true p e = eqb-true (length ws % 4) 0 p
+    by-test false p e = cc

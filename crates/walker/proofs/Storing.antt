@@ -20,6 +20,7 @@ use Rattle.tables.proofs.Columns.{getD-read, length-read}
 use Rattle.tables.proofs.Sentences.{slot-is}
 use Rattle.tables.proofs.Ordered.{ordered}
 use Rattle.walker.specs.Members.{wordsAt, memberWords, memberIn}
+use Rattle.walker.specs.Moves.{Whole}
 
 both : (u v : Bool) → (u && v) ≡ true → (u ≡ true) × (v ≡ true)
 both true v e = (refl, e)
@@ -91,9 +92,6 @@ pass-at (s ∷ table) store (suc k) e =
     rw (m, ← drop-drop (k * 48) 48 store) (pass-at table (drop 48 store) k (both (passes (s .state) (s .layers) store) (allPass table (drop 48 store)) e .1))
 
 -- whole layers, at most sixteen
-abbrev pub Whole : List ℕ → Type 0
-Whole ws = (length ws ≤ 48) × (length ws % 3 ≡ 0)
-
 pub good-whole : (ws : List ℕ) → isGood (checkOf ws) ≡ true → Whole ws
 unfolding checkOf
 good-whole ws e = by-count (eqb (length ws) 0) (ltb 48 (length ws)) (eqb (length ws % 3) 0) refl refl e

@@ -2,12 +2,13 @@
 use mathlib.Core.Bool.{cond}
 use mathlib.Core.List.{List, [], _∷_}
 use Prim.Native.Nat.{ℕ, _*_}
-use lib.Dec.{ltb}
+use lib.Dec.{eqb, ltb}
 use lib.ListN.{take, drop, getD}
 use Rattle.layers.specs.Layers.{Layer, layers}
 use Rattle.tables.specs.declared.symbol.Symbol.{Symbol}
 use Rattle.tables.specs.Rows.{vacant, readFrom}
 use Rattle.tables.specs.Order.{typed, slotFor}
+use Rattle.steps.specs.StepKind as of-step
 use Rattle.walker.specs.Walker as walker
 use Rattle.walker.specs.Walker.{Stored}
 
@@ -22,6 +23,10 @@ memberWords table store id = wordsAt (getD table (slotFor id table) vacant) (dro
 -- The same of columns: of more than 128 rows, none.
 unfoldable pub memberIn : List ℕ → ℕ → List ℕ → ℕ → List ℕ
 memberIn ws n store id = cond (ltb 128 n) [] (memberWords (readFrom ws 0 n) store id)
+
+-- The same where the step is a Member; else none.
+unfoldable pub askedIn : List ℕ → ℕ → List ℕ → ℕ → ℕ → List ℕ
+askedIn ws n store kind id = cond (eqb kind of-step.member) (memberIn ws n store id) []
 
 abbrev pub ofLayers : List Layer → Stored
 ofLayers [] = walker.absent

@@ -1,8 +1,9 @@
+use steps::StepKind;
 use tables::slot_with;
 ghost use mathlib.Core.Path.{_≡_};
 ghost use Prim.Native.Nat.{_*_};
 ghost use lib.ListN.{take, drop};
-ghost use Rattle.walker.specs.Members.{memberIn};
+ghost use Rattle.walker.specs.Members.{memberIn, askedIn};
 
 // The words of so many layers from a word on, or as many words as there are.
 fn words_from(ws: &[u64], at: usize, layers: u64) -> &[u64]
@@ -33,4 +34,20 @@ pub fn member<'a>(flat: &[u64; 768], n: usize, store: &'a [u64], id: u64) -> &'a
         return &store[..0];
     }
     words_from(store, k * 48, flat[k + 512])
+}
+
+// The same where the step is a Member; else no words.
+pub fn asked_member<'a>(
+    flat: &[u64; 768],
+    n: usize,
+    store: &'a [u64],
+    kind: u64,
+    id: u64,
+) -> &'a [u64]
+    ensures { λ r. ⌜ now r ≡ askedIn (now (flat .entry)) n (now (store .entry)) kind id ⌝ }
+{
+    if kind == StepKind::MEMBER {
+        return member(flat, n, store, id);
+    }
+    &store[..0]
 }

@@ -1,0 +1,3 @@
+// The plain walker at work: it takes steps in a row and tells where it arrived.
+mod arrival;
+mod taking;
