@@ -11,4 +11,5 @@ pub mod Delivering
 pub mod Finishing
 pub mod Turning
 pub mod Outcomes
+pub mod Asking
 pub mod Table

@@ -4,4 +4,5 @@ pub mod Demand
 pub mod Rounds
 pub mod Ending
 pub mod Finish
+pub mod Answers
 pub mod Report

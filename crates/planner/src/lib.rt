@@ -2,6 +2,7 @@
 mod deliver;
 mod ending;
 mod finish;
+mod plan;
 mod report;
 mod round;
 mod walk;
