@@ -10,15 +10,15 @@ use lib.ListN.{length, drop, getD, drop-of-length-le}
 use borrow.Author.Tests.{eq-eqb}
 use Rattle.layers.specs.Layers.{Layer, layers, outer}
 use Rattle.layers.specs.Answer as paper
-use Rattle.layers.specs.Answer.{given, refused, ofChecked}
+use Rattle.layers.specs.Answer.{given, refused, ofChecked, next}
 use Rattle.layers.specs.Check.{checkOf}
 use Rattle.layers.specs.declared.answers.Checked.{Checked}
 use Rattle.layers.specs.declared.answers.Checked.the-variants.{Good, Refused}
-use Rattle.tables.specs.Rows.{readFrom}
+use Rattle.tables.specs.Rows.{readFrom, gathered}
 use Rattle.tables.specs.Order.{isGood, inOrder}
 use Rattle.tables.specs.declared.symbol.Symbol.{Symbol}
-use Rattle.tables.proofs.Columns.{length-read}
-use Rattle.tables.proofs.Ordered.{ordered}
+use Rattle.tables.proofs.Columns.{length-read, swapped}
+use Rattle.tables.proofs.Ordered.{ordered, too-long}
 use Rattle.answers.specs.Flat.{notAccepted, flat}
 use Rattle.answers.specs.declared.flat.Answer.{Answer}
 use Rattle.steps.specs.Steps.{steps, stepsAnswer}
@@ -163,3 +163,11 @@ module _ (x : Checked) (ws : List ℕ) (i : ℕ) (t : x ≡ Good i) where
 
   pub steps-fours : ofChecked x ≡ stepsAnswer 128 ws → length ws % 4 ≡ 0
   steps-fours e = steps-whole 128 ws i (sym e ∙ ap ofChecked t)
+
+-- the walk with the columns of a table is the walk with the table
+pub walk-same : (known ws store : List ℕ) (address : Bool) (table : List Symbol) →
+    walkTo known ws address (readFrom (gathered table) 0 (length table)) store ≡ walkTo known ws address table store
+unfolding walkTo walkOrdered
+walk-same known ws store address table =
+    swapped table (λ (l : List Symbol). walkTo known ws address l store) (next (checkOf known) (next (stepsAnswer 128 ws) (refused 12 0)))
+    (λ l e h. rw (too-long l store h))

@@ -89,8 +89,8 @@ pub(crate) fn walk_among<'a>(
     store: &'a [u64],
     out: &mut [u64],
 ) -> Answer
-    ensures answer { λ r. ⌜ r ≡ flat (rules.delivered (length (now (out .entry))) (rules.walkTo (now (known .entry)) (now (steps .entry)) address (readFrom columns 0 n) (now (store .entry)))) ⌝ }
-    ensures written { λ _. ⌜ now (out .exit) ≡ rules.over (rules.walkTo (now (known .entry)) (now (steps .entry)) address (readFrom columns 0 n) (now (store .entry))) (now (out .entry)) ⌝ }
+    ensures { λ r. ⌜ (r ≡ flat (rules.delivered (length (now (out .entry))) (rules.walkTo (now (known .entry)) (now (steps .entry)) address (readFrom columns 0 n) (now (store .entry)))))
+        × (now (out .exit) ≡ rules.over (rules.walkTo (now (known .entry)) (now (steps .entry)) address (readFrom columns 0 n) (now (store .entry))) (now (out .entry))) ⌝ }
 {
     match check_type(known) {
         Checked::Refused { number, place } => refused(number, place),

@@ -6,4 +6,4 @@ use Rattle.turns.proofs.settlement.settle_otherwise.Tie as tie
 pub settle-otherwise-spec : {M : Type 1} → statement M
 settle-otherwise-spec =
     tie.close
-    (tie.spec (λ c κs. search needs) (λ c. search needs) (λ c. search too-deep) (λ c. search one-deeper) (λ c κs. search needs) (λ c. search slice-pointer) (λ c. search fully))
+    (tie.spec (λ c κs. search needs) (λ c. search needs) (λ c. search (too-deep, needs)) (λ c. search one-deeper) (λ c κs. search needs) (λ c. search slice-pointer) (λ c. search fully))
