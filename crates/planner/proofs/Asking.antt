@@ -17,10 +17,10 @@ use Rattle.layers.proofs.Given.{not-given}
 use Rattle.layers.proofs.Accepted.{Whole, accepted-whole}
 use Rattle.forms.specs.Formed.{wellFormed}
 use Rattle.tables.specs.declared.symbol.Symbol.{Symbol}
-use Rattle.tables.specs.Rows.{readFrom}
+use Rattle.tables.specs.Rows.{readFrom, gathered}
 use Rattle.tables.specs.Order.{inOrder}
-use Rattle.tables.proofs.Columns.{length-read}
-use Rattle.tables.proofs.Ordered.{ordered}
+use Rattle.tables.proofs.Columns.{length-read, swapped}
+use Rattle.tables.proofs.Ordered.{ordered, too-long}
 use Rattle.steps.specs.Steps.{steps, stepsAnswer}
 use Rattle.walker.specs.Walker.{Stored}
 use Rattle.walker.specs.Members.{memberIn, ofLayers, members, memberWords}
@@ -78,10 +78,6 @@ module _ (ws : List ℕ) (n : ℕ) (store known asked target : List ℕ) (level 
       planned-so i = rw (ok, ← p, not-false f g, ← q, not-false u i, same-members) refl
 
 -- a question that passed its checks
-by-place : {A : Type 0} (x : Place) (n : ℕ) (a : Answer ℕ) (c : Answer A) (i : A) → next (unless x n a) c ≡ given i → x ≡ nowhere
-by-place (at p) n a c i e = absurd (not-given n p i e)
-by-place nowhere n a c i e = refl
-
 passed : {A : Type 0} (ws : List ℕ) (c : Answer A) (i : A) → next (checkOf ws) c ≡ given i → (checkOf ws ≡ given (length ws / 3)) × (c ≡ given i)
 unfolding checkOf
 passed {A} ws c i e = by-count (badCount (length ws)) (badLayer 0 (layers ws)) (misplaced 0 (layers ws)) e
@@ -123,3 +119,15 @@ module _ (table : List Symbol) (store known asked target : List ℕ) (level roun
       planned table store known asked target level rounds (length s) (length t) ≡ planAnswer table store known asked target level rounds (length s) (length t)
   unfolding planAnswer
   question-passed i h = rw (← e, h) refl
+
+-- from the columns to the table
+module _ (store known asked target : List ℕ) (level rounds room wide : ℕ) (table : List Symbol) where
+  abbrev answer : List Symbol → Answer Plan
+  answer l = planAnswer l store known asked target level rounds room wide
+
+  too-many : (l : List Symbol) → length l ≡ length table → 128 < length l → answer l ≡ next (question known asked target rounds) (refused 12 0)
+  unfolding planAnswer planned
+  too-many l e h = rw (too-long l store h)
+
+  pub plan-same : answer (readFrom (gathered table) 0 (length table)) ≡ answer table
+  plan-same = swapped table answer (next (question known asked target rounds) (refused 12 0)) too-many
