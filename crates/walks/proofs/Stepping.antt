@@ -161,8 +161,8 @@ module _ (x : Checked) (ws : List ℕ) (i : ℕ) (t : x ≡ Good i) where
     pub type-threes : length ws % 3 ≡ 0
     type-threes = type-whole .1
 
-  pub steps-fours : ofChecked x ≡ stepsAnswer 128 ws → length ws % 4 ≡ 0
-  steps-fours e = steps-whole 128 ws i (sym e ∙ ap ofChecked t)
+  pub steps-fours : (most : ℕ) → ofChecked x ≡ stepsAnswer most ws → length ws % 4 ≡ 0
+  steps-fours most e = steps-whole most ws i (sym e ∙ ap ofChecked t)
 
 -- the walk with the columns of a table is the walk with the table
 pub walk-same : (known ws store : List ℕ) (address : Bool) (table : List Symbol) →
