@@ -1,0 +1,3 @@
+pub mod Fixing
+pub mod Outcome
+pub mod Answers
