@@ -2,14 +2,14 @@
 -- Assumes nothing.
 use mathlib.Core.Path.{_≡_, refl, sym, ap, _∙_}
 use mathlib.Core.List.{List, _++_}
-use Prim.Native.Nat.{ℕ, _+_, _-_, _%_, _≤_, _<_}
+use Prim.Native.Nat.{ℕ, _+_, _%_, _≤_, _<_}
 use native.Mathlib.Omega.{arith}
-use lib.ListN.{length, take, drop, length-append}
+use lib.ListN.{length, length-append}
 use borrow.Author.Tests.{lt-ltb, le-ltb}
 use Rattle.layers.specs.Layers.{Layer, layers}
 use Rattle.layers.specs.Answer.{Answer, given, refused}
 use Rattle.buffers.specs.Written.{written}
-use Rattle.buffers.proofs.Writing.{both}
+use Rattle.buffers.proofs.Writing.{part, put, front-first}
 use Rattle.externs.specs.Outcome.{spelled, delivered, told, over}
 use Rattle.externs.proofs.Spelling.{spelled-length, spelled-append, spelled-layers}
 
@@ -48,11 +48,10 @@ module _ (out front rest : List ℕ) (f : length front % 3 ≡ 0) (g : length re
         let n : length out < length (spelled type) = omega (arith, count) in
         stays outcome 14 0 out (rw (le-ltb 16 (length type) few, lt-ltb (length out) (length (spelled type)) n))
 
-    pub wrote : (l y : List ℕ) → length front + length rest ≤ length out → l ≡ written front out →
-        y ≡ written rest (take (length l - length front) (drop (length front) l)) →
-        (given (length front + length rest) ≡ told outcome)
-        × (take (length front) l ++ (y ++ drop (length l - length front) (drop (length front) l)) ≡ over outcome out)
+    pub wrote : (l y : List ℕ) → length front + length rest ≤ length out → l ≡ written front out → y ≡ written rest (part (length front) l) →
+        (given (length front + length rest) ≡ told outcome) × (put (length front) l y ≡ over outcome out)
     unfolding delivered told over
     wrote l y r p q =
         let n : length (spelled type) ≤ length out = omega (arith, count) in
-        rw (le-ltb 16 (length type) few, le-ltb (length out) (length (spelled type)) n, count, words, q, p) (refl, both front rest out r)
+        rw (le-ltb 16 (length type) few, le-ltb (length out) (length (spelled type)) n, count, words, q, p)
+        (refl, front-first front rest out (length front) refl r)

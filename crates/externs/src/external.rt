@@ -13,7 +13,7 @@ ghost use lib.ListN.{length};
 ghost use Rattle.kinds.specs.Kind as kind;
 ghost use Rattle.kinds.specs.Words.{words};
 ghost use Rattle.layers.specs.Layers.{layers, isReference};
-ghost use Rattle.layers.specs.Answer.{given, next, ofChecked};
+ghost use Rattle.layers.specs.Answer.{ofChecked};
 ghost use Rattle.externs.specs.Fixing as fixing;
 ghost use Rattle.externs.specs.Outcome.{Whole, Room, delivered, told, over};
 
@@ -52,7 +52,7 @@ fn external_layer(k: u64, name: u64, number: u64) -> [u64; 3]
 // Makes the type externalized. It starts at a place, a layer, of the type given.
 fn externalize_type(t: &[u64], place: u64, made: &mut [u64]) -> Checked
     requires { ⌜ Room (now t) place (now made) ⌝ }
-    ensures answer { λ r. ⌜ ofChecked r ≡ next (fixing.externalized place (layers (now (t .entry)))) (given (length (now (t .entry)))) ⌝ }
+    ensures answer { λ r. ⌜ ofChecked r ≡ told (fixing.externalized place (layers (now (t .entry)))) ⌝ }
     ensures buffer { λ _. ⌜ now (made .exit) ≡ over (fixing.externalized place (layers (now (t .entry)))) (now (made .entry)) ⌝ }
 {
     if t.len() < 3 {

@@ -18,7 +18,7 @@ write-type-spec =
     (λ c κs. search needs)
     (λ c. search needs)
     (λ c.
-      let w = c .before .before .before .before .before .before in
-      let e = w .before .before in
-      let s = e .before .before .before .before .before in
-      wrote _ _ _ (s .pre .0 .whole) (s .pre .1 .whole) (e .before .if1 .left) _ _ (e .if2 .left) (w .write-words .ensures) (c .before .before .write-words2 .ensures)))
+    let w = c .before .before .before .before .before .before in
+    let e = w .before .before in
+    let s = e .before .before .before .before .before in
+    wrote _ _ _ (s .pre .0 .whole) (s .pre .1 .whole) (e .before .if1 .left) _ _ (e .if2 .left) (w .write-words .ensures) (c .before .before .write-words2 .ensures)))
