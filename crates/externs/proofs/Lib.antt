@@ -2,3 +2,4 @@
 pub mod Spelling
 pub mod Outcomes
 pub mod Externalizing
+pub mod Fixes
