@@ -18,7 +18,8 @@ use Rattle.layers.proofs.Words.{head, rest, rest-is, none, more}
 use Rattle.buffers.specs.Written.{written}
 use Rattle.buffers.proofs.Writing.{part, put, put-back, front-last}
 use Rattle.externs.specs.Fixing.{under, kept, externalized}
-use Rattle.externs.specs.Outcome.{spelled, told, over, Room}
+use Rattle.externs.specs.Outcome.{spelled, told, over}
+use Rattle.externs.specs.Room.{Room}
 use Rattle.externs.proofs.Spelling.{spelled-length, spelled-layers}
 use Rattle.externs.proofs.Outcomes.{stays}
 

@@ -22,7 +22,8 @@ use Rattle.forms.specs.Formed.{wellFormed}
 use Rattle.buffers.specs.Written.{written}
 use Rattle.buffers.proofs.Writing.{fits}
 use Rattle.externs.specs.Fixing.{parameter, returned, member, under, externalized, externalize, fixedExtern, fixedPlain, fixed}
-use Rattle.externs.specs.Outcome.{Whole, spelled, delivered, told, over}
+use Rattle.externs.specs.Outcome.{spelled, delivered, told, over}
+use Rattle.externs.specs.Room.{Whole}
 use Rattle.externs.specs.Answers.{fixedType}
 use Rattle.externs.proofs.Spelling.{spelled-length, spelled-layers, layers-spelled}
 use Rattle.externs.proofs.Externalizing.{told-refused, told-given, same-length}

@@ -3,3 +3,5 @@ pub mod Spelling
 pub mod Outcomes
 pub mod Externalizing
 pub mod Fixes
+pub mod Theorems
+pub mod Single

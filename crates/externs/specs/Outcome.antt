@@ -1,8 +1,7 @@
 -- From the type that was made to the answer and the words that are lent.
-use mathlib.Core.Path.{_≡_}
 use mathlib.Core.Bool.{cond}
 use mathlib.Core.List.{List, [], _∷_}
-use Prim.Native.Nat.{ℕ, _+_, _%_, _≤_}
+use Prim.Native.Nat.{ℕ}
 use lib.Dec.{ltb}
 use lib.ListN.{length}
 use Rattle.layers.specs.Layers.{Layer}
@@ -34,14 +33,3 @@ unfoldable pub over : Answer (List Layer) → List ℕ → List ℕ
 over (given a) b = written (spelled a) b
 over nothing b = b
 over (refused n p) b = b
-
--- What the functions inside ask for: words that are whole layers, 16 at most.
-pub record Whole (ws : List ℕ) : Type 0 where
-  pub whole : length ws % 3 ≡ 0
-  pub few : length ws ≤ 48
-
--- Words with room for those of a type that starts at a place.
-pub record Room (ws : List ℕ) (place : ℕ) (made : List ℕ) : Type 0 where
-  pub whole : length ws % 3 ≡ 0
-  pub room : length ws ≤ length made
-  pub near : place + length ws ≤ 64

@@ -15,7 +15,8 @@ ghost use Rattle.kinds.specs.Words.{words};
 ghost use Rattle.layers.specs.Layers.{layers, isReference};
 ghost use Rattle.layers.specs.Answer.{ofChecked};
 ghost use Rattle.externs.specs.Fixing as fixing;
-ghost use Rattle.externs.specs.Outcome.{Whole, Room, delivered, told, over};
+ghost use Rattle.externs.specs.Room.{Whole, Room};
+ghost use Rattle.externs.specs.Outcome.{delivered, told, over};
 
 fn is_kept(k: u64) -> bool
     ensures { λ r. ⌜ r ≡ fixing.kept k ⌝ }

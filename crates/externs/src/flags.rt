@@ -12,7 +12,8 @@ ghost use lib.ListN.{length};
 ghost use Rattle.layers.specs.Layers.{layers};
 ghost use Rattle.layers.specs.Answer.{given, ofChecked};
 ghost use Rattle.externs.specs.Fixing as fixing;
-ghost use Rattle.externs.specs.Outcome.{Whole, delivered, told, over};
+ghost use Rattle.externs.specs.Room.{Whole};
+ghost use Rattle.externs.specs.Outcome.{delivered, told, over};
 ghost use Rattle.externs.specs.Answers.{fixedAnswer, fixedBuffer};
 
 // The contexts that a type can stand in, in the order of the rules and not of the Rust's enum.

@@ -5,7 +5,8 @@ ghost use mathlib.Core.List.{_++_};
 ghost use lib.ListN.{length};
 ghost use Rattle.layers.specs.Layers.{layers};
 ghost use Rattle.layers.specs.Answer.{given, ofChecked};
-ghost use Rattle.externs.specs.Outcome.{Whole, delivered, told, over};
+ghost use Rattle.externs.specs.Room.{Whole};
+ghost use Rattle.externs.specs.Outcome.{delivered, told, over};
 
 // The most words that a type has.
 const MOST: usize = 48;
