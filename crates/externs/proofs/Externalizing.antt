@@ -3,7 +3,7 @@
 use mathlib.Core.Path.{_≡_, refl, sym, ap, _∙_}
 use mathlib.Core.Bool.{Bool, true, false, cond, not, _||_, true≢false, false≢true}
 use mathlib.Core.List.{List, [], _∷_, _++_}
-use Prim.Native.Nat.{ℕ, suc, _+_, _*_, _-_, _%_, _≤_, _<_}
+use Prim.Native.Nat.{ℕ, suc, _+_, _%_, _≤_, _<_}
 use native.Mathlib.Omega.{arith}
 use lib.Dec.{eqb}
 use lib.ListN.{length, getD, length-take, length-drop}
@@ -14,7 +14,7 @@ use Rattle.layers.specs.Layers.{Layer, layer, layers, isReference}
 use Rattle.layers.specs.Answer.{Answer, given, nothing, refused, ofChecked}
 use Rattle.layers.specs.declared.answers.Checked.{Checked}
 use Rattle.layers.specs.declared.answers.Checked.the-variants.{Good, Refused}
-use Rattle.layers.proofs.Words.{head, rest, rest-is, none, more}
+use Rattle.layers.proofs.Words.{head, rest, none, more}
 use Rattle.buffers.specs.Written.{written}
 use Rattle.buffers.proofs.Writing.{part, put, put-back, front-last}
 use Rattle.externs.specs.Fixing.{under, kept, externalized}

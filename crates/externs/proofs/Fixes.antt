@@ -1,8 +1,8 @@
 -- What becomes of a type, by what the code tested.
 -- Assumes nothing.
 use mathlib.Core.Path.{_≡_, refl, sym, ap, _∙_}
-use mathlib.Core.Bool.{Bool, true, false, cond, not, _&&_, _||_}
-use mathlib.Core.List.{List, [], _∷_, _++_}
+use mathlib.Core.Bool.{Bool, true, false, not, _&&_, _||_}
+use mathlib.Core.List.{List, [], _++_}
 use Prim.Native.Nat.{ℕ, _-_, _%_, _≤_, _<_}
 use native.Mathlib.Omega.{arith}
 use lib.Dec.{eqb}
@@ -12,7 +12,7 @@ use borrow.Author.Tests.{eq-eqb, ne-eqb, lt-ltb, le-ltb, not-true, not-false}
 use Rattle.kinds.specs.Kind as kind
 use Rattle.kinds.specs.Words.{words}
 use Rattle.layers.specs.Layers.{Layer, layers, outer, inside}
-use Rattle.layers.specs.Answer.{Answer, given, nothing, refused, ofChecked, next}
+use Rattle.layers.specs.Answer.{Answer, given, nothing, refused, ofChecked}
 use Rattle.layers.specs.Check.{badCount, checkOf}
 use Rattle.layers.specs.declared.answers.Checked.{Checked}
 use Rattle.layers.specs.declared.answers.Checked.the-variants.{Good, Refused}

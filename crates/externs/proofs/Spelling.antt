@@ -5,7 +5,7 @@ use mathlib.Core.List.{List, [], _∷_, _++_}
 use Prim.Native.Nat.{ℕ, _*_, _%_}
 use native.Mathlib.Omega.{arith}
 use lib.ListN.{length}
-use Rattle.layers.specs.Layers.{Layer, layer, layers}
+use Rattle.layers.specs.Layers.{Layer, layers}
 use Rattle.externs.specs.Outcome.{spelled}
 
 pub spelled-length : (a : List Layer) → length (spelled a) ≡ 3 * length a

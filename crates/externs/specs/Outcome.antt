@@ -33,3 +33,10 @@ unfoldable pub over : Answer (List Layer) → List ℕ → List ℕ
 over (given a) b = written (spelled a) b
 over nothing b = b
 over (refused n p) b = b
+
+-- Both, where the type goes to the words that were lent.
+abbrev pub answerIn : List ℕ → Answer (List Layer) → Answer ℕ
+answerIn out o = told (delivered (length out) o)
+
+abbrev pub bufferIn : List ℕ → Answer (List Layer) → List ℕ
+bufferIn out o = over (delivered (length out) o) out

@@ -9,14 +9,13 @@ ghost use mathlib.Core.Path.{_≡_};
 ghost use mathlib.Core.Bool.{cond, _||_};
 ghost use Prim.Native.Nat.{_≤_};
 ghost use lib.Dec.{eqb};
-ghost use lib.ListN.{length};
 ghost use Rattle.kinds.specs.Kind as kind;
 ghost use Rattle.kinds.specs.Words.{words};
 ghost use Rattle.layers.specs.Layers.{layers, isReference};
 ghost use Rattle.layers.specs.Answer.{ofChecked};
 ghost use Rattle.externs.specs.Fixing as fixing;
 ghost use Rattle.externs.specs.Room.{Whole, Room};
-ghost use Rattle.externs.specs.Outcome.{delivered, told, over};
+ghost use Rattle.externs.specs.Outcome.{told, over, answerIn, bufferIn};
 
 fn is_kept(k: u64) -> bool
     ensures { λ r. ⌜ r ≡ fixing.kept k ⌝ }
@@ -80,8 +79,8 @@ fn externalize_type(t: &[u64], place: u64, made: &mut [u64]) -> Checked
 // The type externalized, inside of the layers in front.
 fn externalize_part(front: &[u64], t: &[u64], place: u64, out: &mut [u64]) -> Checked
     requires { ⌜ Whole (now front) × Whole (now t) × (place ≤ 1) ⌝ }
-    ensures answer { λ r. ⌜ ofChecked r ≡ told (delivered (length (now (out .entry))) (fixing.under (layers (now (front .entry))) (fixing.externalize place (layers (now (t .entry)))))) ⌝ }
-    ensures buffer { λ _. ⌜ now (out .exit) ≡ over (delivered (length (now (out .entry))) (fixing.under (layers (now (front .entry))) (fixing.externalize place (layers (now (t .entry)))))) (now (out .entry)) ⌝ }
+    ensures answer { λ r. ⌜ ofChecked r ≡ answerIn (now (out .entry)) (fixing.under (layers (now (front .entry))) (fixing.externalize place (layers (now (t .entry))))) ⌝ }
+    ensures buffer { λ _. ⌜ now (out .exit) ≡ bufferIn (now (out .entry)) (fixing.under (layers (now (front .entry))) (fixing.externalize place (layers (now (t .entry))))) ⌝ }
 {
     if !is_wellformed(t) {
         return Checked::Refused {
@@ -100,8 +99,8 @@ fn externalize_part(front: &[u64], t: &[u64], place: u64, out: &mut [u64]) -> Ch
 // An extern type.
 pub(crate) fn fix_external(t: &[u64], out: &mut [u64]) -> Checked
     requires { ⌜ Whole (now t) ⌝ }
-    ensures answer { λ r. ⌜ ofChecked r ≡ told (delivered (length (now (out .entry))) (fixing.fixedExtern (layers (now (t .entry))))) ⌝ }
-    ensures buffer { λ _. ⌜ now (out .exit) ≡ over (delivered (length (now (out .entry))) (fixing.fixedExtern (layers (now (t .entry))))) (now (out .entry)) ⌝ }
+    ensures answer { λ r. ⌜ ofChecked r ≡ answerIn (now (out .entry)) (fixing.fixedExtern (layers (now (t .entry)))) ⌝ }
+    ensures buffer { λ _. ⌜ now (out .exit) ≡ bufferIn (now (out .entry)) (fixing.fixedExtern (layers (now (t .entry)))) ⌝ }
 {
     if outer(t) == Kind::ARRAYLIKE {
         let front = [Kind::VIEW, 0, 0, Kind::ENDLESS_ARRAY, 0, 0];

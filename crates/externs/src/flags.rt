@@ -8,12 +8,11 @@ use parts::outer;
 ghost use mathlib.Core.Path.{_≡_};
 ghost use mathlib.Core.Bool.{_||_};
 ghost use lib.Dec.{eqb};
-ghost use lib.ListN.{length};
 ghost use Rattle.layers.specs.Layers.{layers};
 ghost use Rattle.layers.specs.Answer.{given, ofChecked};
 ghost use Rattle.externs.specs.Fixing as fixing;
 ghost use Rattle.externs.specs.Room.{Whole};
-ghost use Rattle.externs.specs.Outcome.{delivered, told, over};
+ghost use Rattle.externs.specs.Outcome.{answerIn, bufferIn};
 ghost use Rattle.externs.specs.Answers.{fixedAnswer, fixedBuffer};
 
 // The contexts that a type can stand in, in the order of the rules and not of the Rust's enum.
@@ -32,8 +31,8 @@ fn is_viewed(context: u64) -> bool
 // A type that is not extern.
 fn fix_plain(t: &[u64], context: u64, out: &mut [u64]) -> Checked
     requires { ⌜ Whole (now t) ⌝ }
-    ensures answer { λ r. ⌜ ofChecked r ≡ told (delivered (length (now (out .entry))) (given (fixing.fixedPlain context (layers (now (t .entry)))))) ⌝ }
-    ensures buffer { λ _. ⌜ now (out .exit) ≡ over (delivered (length (now (out .entry))) (given (fixing.fixedPlain context (layers (now (t .entry)))))) (now (out .entry)) ⌝ }
+    ensures answer { λ r. ⌜ ofChecked r ≡ answerIn (now (out .entry)) (given (fixing.fixedPlain context (layers (now (t .entry))))) ⌝ }
+    ensures buffer { λ _. ⌜ now (out .exit) ≡ bufferIn (now (out .entry)) (given (fixing.fixedPlain context (layers (now (t .entry))))) ⌝ }
 {
     let k = outer(t);
     let inside = inner(t);
@@ -54,8 +53,8 @@ fn fix_plain(t: &[u64], context: u64, out: &mut [u64]) -> Checked
 
 fn fix_checked(t: &[u64], external: bool, context: u64, out: &mut [u64]) -> Checked
     requires { ⌜ Whole (now t) ⌝ }
-    ensures answer { λ r. ⌜ ofChecked r ≡ told (delivered (length (now (out .entry))) (fixing.fixed external context (layers (now (t .entry))))) ⌝ }
-    ensures buffer { λ _. ⌜ now (out .exit) ≡ over (delivered (length (now (out .entry))) (fixing.fixed external context (layers (now (t .entry))))) (now (out .entry)) ⌝ }
+    ensures answer { λ r. ⌜ ofChecked r ≡ answerIn (now (out .entry)) (fixing.fixed external context (layers (now (t .entry)))) ⌝ }
+    ensures buffer { λ _. ⌜ now (out .exit) ≡ bufferIn (now (out .entry)) (fixing.fixed external context (layers (now (t .entry)))) ⌝ }
 {
     if context > MEMBER {
         return Checked::Refused {
