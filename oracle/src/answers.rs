@@ -43,7 +43,11 @@ fn input(question: usize, random: &mut Random) -> (Vec<u64>, Vec<u64>) {
     let most = if random.once_in(8) { 16 } else { 4 };
     if question == FIXING {
         let t = extern_type(random, most);
-        let t = if random.once_in(6) { damaged(random, &t) } else { words(&t) };
+        let t = if random.once_in(6) {
+            damaged(random, &t)
+        } else {
+            words(&t)
+        };
         let beside = flags(random, t.len());
         return (t, beside);
     }

@@ -201,7 +201,9 @@ fn fixing(tallies: &mut Tallies) {
         tallies.ask_fixed(&run, &[8, 51]);
     }
     let mut long = [turned_chains(), spoiled_chains(), chains([BOOL, 0, 0])].concat();
-    let inside = long.iter().map(|chain| [&[ARRAYLIKE, 0, 0], &chain[..]].concat());
+    let inside = long
+        .iter()
+        .map(|chain| [&[ARRAYLIKE, 0, 0], &chain[..]].concat());
     long.extend(inside.collect::<Vec<_>>());
     for chain in long {
         let n = chain.len() as u64;
@@ -245,7 +247,11 @@ fn report(tallies: &[Tally]) -> (u64, u64) {
             println!("\n{name}, the smallest difference:");
             println!("  left      {:?}", d.a);
             if !d.b.is_empty() {
-                let name = if *name == "fix_type_for_flags" { "flags" } else { "right" };
+                let name = if *name == "fix_type_for_flags" {
+                    "flags"
+                } else {
+                    "right"
+                };
                 println!("  {name:10}{:?}", d.b);
             }
             println!("  the Rust  {:?}", d.expected);
