@@ -19,12 +19,13 @@ static void say(const char *question, tj_answer a)
 
 int main(void)
 {
-    /* Slice of Char8; Array of 3 Char8; View of Pointer to Int32; a leaf early. */
+    /* Slice of Char8; Array of 3 Char8; Arraylike of Char8; View of Pointer to Int32; a leaf early. */
     const uint64_t slice[] = {16, 0, 0, 12, 0, 0};
     const uint64_t array[] = {14, 0, 3, 12, 0, 0};
+    const uint64_t arraylike[] = {19, 0, 0, 12, 0, 0};
     const uint64_t view[] = {24, 0, 0, 23, 0, 0, 3, 0, 0};
     const uint64_t early[] = {23, 0, 0, 3, 0, 0, 3, 0, 0};
-    uint64_t size = 7, low = 7, high = 7;
+    uint64_t size = 7, low = 7, high = 7, fixed[9] = {0};
 
     say("layers of view", tj_check(WORDS(view)));
     say("layers of early", tj_check(WORDS(early)));
@@ -38,5 +39,8 @@ int main(void)
     printf("which is %" PRIu64 " * 2^64 + %" PRIu64 "\n", high, low);
     say("array coerces into slice", tj_can_coerce_into(WORDS(array), WORDS(slice)));
     say("slice coerces into array", tj_can_coerce_into(WORDS(slice), WORDS(array)));
+    say("words of an extern arraylike", tj_fix_type_for_flags(WORDS(arraylike), true, 1, WORDS(fixed)));
+    printf("of kinds %" PRIu64 " %" PRIu64 " %" PRIu64 "\n", fixed[0], fixed[3], fixed[6]);
+    say("array in an extern", tj_fix_type_for_flags(WORDS(array), true, 1, WORDS(fixed)));
     return 0;
 }

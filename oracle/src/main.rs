@@ -24,7 +24,8 @@ use std::env;
 use std::io::Write;
 use std::process::exit;
 
-const USAGE: &str = "oracle smoke | oracle cases | oracle answers COUNT SEED | oracle compare SCALE SEED";
+const USAGE: &str =
+    "oracle smoke | oracle cases | oracle answers COUNT SEED | oracle compare SCALE SEED";
 
 fn main() {
     let words: Vec<String> = env::args().skip(1).collect();

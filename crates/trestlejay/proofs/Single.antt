@@ -10,6 +10,7 @@ use Rattle.trestlejay.proofs.properties.tj_check.Kinds as of-type
 use Rattle.trestlejay.proofs.pairs.tj_equals.Kinds as of-pair
 use Rattle.trestlejay.proofs.measures.tj_stored_size.Kinds as with-size
 use Rattle.trestlejay.proofs.measures.tj_min_i128.Kinds as with-halves
+use Rattle.trestlejay.proofs.fixing.tj_fix_type_for_flags.Kinds as with-buffer
 use Rattle.trestlejay.proofs.properties.tj_check.Reads as tj-check
 use Rattle.trestlejay.proofs.properties.tj_is_wellformed.Reads as tj-is-wellformed
 use Rattle.trestlejay.proofs.properties.tj_is_void.Reads as tj-is-void
@@ -42,6 +43,7 @@ use Rattle.trestlejay.proofs.pairs.tj_can_coerce_into.Reads as tj-can-c
 use Rattle.trestlejay.proofs.pairs.tj_can_coerce_address_into.Reads as tj-can-coerce-address-into
 use Rattle.trestlejay.proofs.pairs.tj_can_autoderef_into.Reads as tj-can-autoderef-into
 use Rattle.trestlejay.proofs.pairs.tj_can_subautoderef_into.Reads as tj-can-subautoderef-into
+use Rattle.trestlejay.proofs.fixing.tj_fix_type_for_flags.Reads as tj-fix-type-for-flags
 
 abbrev SingleOfType : Out 1 of-type.ps of-type.r → Type 0
 SingleOfType Q = Single 1 of-type.ps of-type.r Q
@@ -154,3 +156,7 @@ tj-min-i128-single κs a x y s t p q = (p .0 ∙ sym (q .0), (p .1 .0 ∙ sym (q
 
 pub tj-max-u128-single : SingleWithHalves tj-max-u128.Post
 tj-max-u128-single κs a x y s t p q = (p .0 ∙ sym (q .0), (p .1 .0 ∙ sym (q .1 .0), p .1 .1 ∙ sym (q .1 .1)))
+
+pub tj-fix-type-for-flags-single : (κs : Lfts 2) (a : Dens κs with-buffer.ps) (x y : resT with-buffer.r κs .Denot) (s t : AtExit (endedOf 2 with-buffer.ps with-buffer.r) κs) →
+    tj-fix-type-for-flags.Post κs a x s → tj-fix-type-for-flags.Post κs a y t → (x ≡ y) × (now (s .1 .1 .1 .0) ≡ now (t .1 .1 .1 .0))
+tj-fix-type-for-flags-single κs a x y s t p q = (p .0 ∙ sym (q .0), p .1 ∙ sym (q .1))

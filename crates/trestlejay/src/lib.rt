@@ -1,4 +1,5 @@
 // The C face: each public question as an exported function, as include/trestlejay.h declares it.
+mod fixing;
 mod measures;
 mod pairs;
 mod properties;
@@ -6,6 +7,7 @@ mod starts;
 mod uses;
 
 pub use answers::Answer;
+pub use fixing::tj_fix_type_for_flags;
 pub use measures::tj_known_size_in_bytes_as_word_member;
 pub use measures::tj_max_u128;
 pub use measures::tj_min_i128;

@@ -1,0 +1,3 @@
+-- What is known of words that were written.
+pub mod Writing
+pub mod Single
