@@ -1,0 +1,227 @@
+-- What follows from the rule of the update alone.
+-- Assumes nothing.
+use mathlib.Core.Path.{_≡_, refl, sym, _∙_}
+use mathlib.Core.Bool.{Bool, true, false, cond, not, _&&_, _||_, true≢false, false≢true}
+use mathlib.Core.List.{List, []}
+use Prim.Native.Nat.{ℕ, _*_, _/_, _%_, _≤_}
+use native.Mathlib.Omega.{arith}
+use lib.Dec.{eqb, leb}
+use lib.ListN.{length, take, drop}
+use lib.Seq.{take-append-seam}
+use borrow.Author.Tests.{eqb-true, le-leb, le-ltb}
+use Rattle.layers.specs.Layers.{Layer, layers}
+use Rattle.layers.specs.Answer as paper
+use Rattle.layers.specs.Answer.{given, nothing, refused, next}
+use Rattle.layers.specs.Check.{badCount, badLayer, misplaced, checkOf, unless}
+use Rattle.layers.proofs.Checks.{start}
+use Rattle.forms.specs.Formed.{wellFormed}
+use Rattle.relations.specs.Relations.{identical, declared, concretization}
+use Rattle.relations.proofs.Theorems.{identical-reflexive}
+use Rattle.coercions.specs.Coercions.{coerces}
+use Rattle.buffers.specs.Written.{written}
+use Rattle.buffers.proofs.Writing.{fits, length-written}
+use Rattle.tables.specs.declared.symbol.Symbol.{Symbol}
+use Rattle.answers.specs.Flat.{accepted}
+use Rattle.updates.specs.Updates.{lineOf, answerBy, typed, recordBy, wordsBy, storedOf, lineAt, updated, wordsAfter}
+use Rattle.updates.specs.Lone.{isGiven, passes, holdsType, inOrder, loneCheck, unlessRefused, loneUpdated, keptWhereRefused, loneWordsAfter}
+use Rattle.updates.specs.declared.lines.Line.{Line}
+use Rattle.updates.specs.declared.lines.Line.the-variants as line
+use Rattle.updates.specs.declared.record.Updated.{Updated}
+
+-- the lines, by the tests alone
+abbrev first : Bool → Bool → Bool → Bool → Bool → Line
+first p f k d b =
+    cond p line.Poisoned
+    (cond (not f) line.IllFormed
+    (cond k line.Kept
+    (cond d line.TypeReplaced
+    (cond b line.BothReplaced
+    line.Conflicting))))
+
+-- what is known where each sort of line applies
+abbrev Knows : (p f k : Bool) → Line → Type 0
+Knows p f k line.Poisoned = p ≡ true
+Knows p f k line.IllFormed = f ≡ false
+Knows p f k line.Kept = k ≡ true
+Knows p f k line.TypeReplaced = f ≡ true
+Knows p f k line.BothReplaced = f ≡ true
+Knows p f k line.Conflicting = Unit
+
+knows : (p f k d b : Bool) → Knows p f k (first p f k d b)
+knows true f k d b = refl
+knows false false k d b = refl
+knows false true true d b = refl
+knows false true false true b = refl
+knows false true false false true = refl
+knows false true false false false = tt
+
+left : (u v : Bool) → (u && v) ≡ true → u ≡ true
+left true v e = refl
+left false v e = absurd (false≢true e)
+
+-- What was written is what is stored.
+pub stored-written : (offered ws : List ℕ) → length offered ≤ length ws → length offered % 3 ≡ 0 →
+    storedOf (length offered / 3) (written offered ws) ≡ offered
+unfolding storedOf
+stored-written offered ws h m =
+    let n : length offered / 3 * 3 ≡ length offered = omega (arith, m) in
+    let k : length offered / 3 ≤ length ws / 3 = omega arith in
+    rw (length-written offered ws, le-ltb (length ws / 3) (length offered / 3) k, n, fits offered ws h, take-append-seam)
+
+module _ (s : Symbol) (ws : List ℕ) (id : ℕ) (authority : Bool) (place : ℕ) (offered : List ℕ) where
+  -- the stored type before and after
+  abbrev stored : List Layer
+  stored = layers (storedOf (s .layers) ws)
+
+  abbrev after : Updated
+  after = updated s ws id authority place offered
+
+  abbrev then-stored : List Layer
+  then-stored = layers (storedOf (after .symbol .layers) (wordsAfter s ws authority offered))
+
+  abbrev formed : Bool
+  formed = wellFormed (layers offered) && wellFormed stored
+
+  abbrev holds : List Layer → Bool
+  holds t = identical t (layers offered) || concretization t (layers offered)
+
+  abbrev by : Line → List Layer
+  by l = layers (storedOf (recordBy l s id authority place offered .layers) (wordsBy l offered ws))
+
+  known : Knows (eqb (s .state) 2) formed (holds stored) (lineAt s ws authority offered)
+  unfolding lineOf
+  known =
+      knows (eqb (s .state) 2) formed (holds stored) (s .authority && declared (layers offered) stored)
+      (authority && (concretization (layers offered) stored || coerces (layers offered) stored))
+
+  -- A poisoned record stays as it is, and the update is accepted.
+  pub poison-wins : s .state ≡ 2 → (after ≡ record { symbol = s; answer = accepted 0 }) × (wordsAfter s ws authority offered ≡ ws)
+  unfolding updated wordsAfter lineOf
+  poison-wins e = (rw e, rw e)
+
+  -- An update that is refused, or accepted with 0, changes nothing.
+  pub unchanged : (after .answer .refusal ≡ 0 → after .answer .value ≡ 0) →
+      (after .symbol ≡ s) × (wordsAfter s ws authority offered ≡ ws)
+  unfolding updated wordsAfter
+  unchanged = by-line (lineAt s ws authority offered)
+    where
+      by-line : (l : Line) → (answerBy l .refusal ≡ 0 → answerBy l .value ≡ 0) →
+          (recordBy l s id authority place offered ≡ s) × (wordsBy l offered ws ≡ ws)
+      by-line line.Poisoned h = (refl, refl)
+      by-line line.IllFormed h = (refl, refl)
+      by-line line.Kept h = (refl, refl)
+      by-line line.TypeReplaced h = absurd (omega (arith, h refl))
+      by-line line.BothReplaced h = absurd (omega (arith, h refl))
+      by-line line.Conflicting h = (refl, refl)
+
+  module _ (h : length offered ≤ length ws) (m : length offered % 3 ≡ 0) where
+    -- No update makes a stored type that is well formed ill formed.
+    pub stays-well-formed : wellFormed stored ≡ true → wellFormed then-stored ≡ true
+    unfolding updated wordsAfter
+    stays-well-formed e = by-line (lineAt s ws authority offered) known
+      where
+        replaced : formed ≡ true → wellFormed (layers (storedOf (length offered / 3) (written offered ws))) ≡ true
+        replaced k = rw (stored-written offered ws h m) (left (wellFormed (layers offered)) (wellFormed stored) k)
+
+        by-line : (l : Line) → Knows (eqb (s .state) 2) formed (holds stored) l → wellFormed (by l) ≡ true
+        by-line line.Poisoned k = e
+        by-line line.IllFormed k = e
+        by-line line.Kept k = e
+        by-line line.TypeReplaced k = replaced k
+        by-line line.BothReplaced k = replaced k
+        by-line line.Conflicting k = e
+
+    -- After an accepted update of a record that isn't poisoned, the stored type is identical to the offered one or a
+    -- concretization of it.
+    pub accepted-holds-offered : (s .state ≡ 2 → ⊥) → after .answer .refusal ≡ 0 → holds then-stored ≡ true
+    unfolding updated wordsAfter
+    accepted-holds-offered p = by-line (lineAt s ws authority offered) known
+      where
+        replaced : holds (layers (storedOf (length offered / 3) (written offered ws))) ≡ true
+        replaced = rw (stored-written offered ws h m, identical-reflexive (layers offered))
+
+        by-line : (l : Line) → Knows (eqb (s .state) 2) formed (holds stored) l → answerBy l .refusal ≡ 0 → holds (by l) ≡ true
+        by-line line.Poisoned k e = absurd (p (eqb-true (s .state) 2 k))
+        by-line line.IllFormed k e = absurd (omega (arith, e))
+        by-line line.Kept k e = k
+        by-line line.TypeReplaced k e = replaced
+        by-line line.BothReplaced k e = replaced
+        by-line line.Conflicting k e = absurd (omega (arith, e))
+
+-- words that pass the checks
+counted : (ws : List ℕ) → passes ws ≡ true → (length ws ≤ 48) × (length ws % 3 ≡ 0)
+unfolding passes checkOf
+counted ws e = by-count (badCount (length ws)) refl e
+  where
+    by-count : (b : Bool) → badCount (length ws) ≡ b →
+        isGiven (cond b (refused 1 0) (unless (badLayer 0 (layers ws)) 2 (unless (misplaced 0 (layers ws)) 3 (given (length ws / 3))))) ≡ true →
+        (length ws ≤ 48) × (length ws % 3 ≡ 0)
+    by-count true c f = absurd (false≢true f)
+    by-count false c f = (start ws c .few, start ws c .whole)
+
+-- a lone record passes where what is offered does and it is in order
+both-pass : (x : paper.Answer ℕ) (b : Bool) → isGiven (next x (cond b (given 0) (refused 12 0))) ≡ true →
+    (isGiven x ≡ true) × (b ≡ true)
+both-pass (given n) true e = (refl, refl)
+both-pass (given n) false e = absurd (false≢true e)
+both-pass nothing true e = (refl, refl)
+both-pass nothing false e = absurd (false≢true e)
+both-pass (refused n p) b e = absurd (false≢true e)
+
+module _ (s : Symbol) (ws : List ℕ) (id : ℕ) (authority : Bool) (place : ℕ) (offered : List ℕ) where
+  abbrev lone : Updated
+  lone = loneUpdated s ws id authority place offered
+
+  abbrev rest : Updated
+  rest = updated s ws id authority place offered
+
+  -- An update of a lone record that is refused, or accepted with 0, changes nothing.
+  pub lone-unchanged : (lone .answer .refusal ≡ 0 → lone .answer .value ≡ 0) →
+      (lone .symbol ≡ s) × (loneWordsAfter s ws authority offered ≡ ws)
+  unfolding loneUpdated loneWordsAfter
+  lone-unchanged = by-check (loneCheck s ws offered)
+    where
+      by-check : (c : paper.Answer ℕ) →
+          (unlessRefused c s rest .answer .refusal ≡ 0 → unlessRefused c s rest .answer .value ≡ 0) →
+          (unlessRefused c s rest .symbol ≡ s) × (keptWhereRefused c ws (wordsAfter s ws authority offered) ≡ ws)
+      by-check (given n) h = unchanged s ws id authority place offered h
+      by-check nothing h = unchanged s ws id authority place offered h
+      by-check (refused n p) h = (refl, refl)
+
+  module _ (e : isGiven (loneCheck s ws offered) ≡ true) where
+    pass : (passes offered ≡ true) × (inOrder s ws ≡ true)
+    unfolding passes loneCheck
+    pass = both-pass (checkOf offered) (inOrder s ws) e
+
+    all : length ws ≡ 48
+    unfolding inOrder
+    all =
+        eqb-true (length ws) 48
+        (left (eqb (length ws) 48) (eqb (s .state) 2 || (eqb (s .state) 1 && holdsType (s .layers) ws)) (pass .1))
+
+    in-order-typed : (i : ℕ) (a : Bool) (p : ℕ) → inOrder (typed i a p offered) (written offered ws) ≡ true
+    unfolding inOrder
+    in-order-typed i a p =
+        let c = counted offered (pass .0) in
+        let few : length offered ≤ length ws = omega (arith, c .0, all) in
+        let small : length offered / 3 ≤ 16 = omega (arith, c .0) in
+        rw (length-written offered ws, all, le-leb (length offered / 3) 16 small, stored-written offered ws few (c .1), pass .0)
+
+    -- A lone record that passes the checks is in order afterwards too.
+    pub stays-in-order : inOrder (lone .symbol) (loneWordsAfter s ws authority offered) ≡ true
+    unfolding loneUpdated loneWordsAfter updated wordsAfter
+    stays-in-order = by-check (loneCheck s ws offered) e
+      where
+        by-line : (l : Line) → inOrder (recordBy l s id authority place offered) (wordsBy l offered ws) ≡ true
+        by-line line.Poisoned = pass .1
+        by-line line.IllFormed = pass .1
+        by-line line.Kept = pass .1
+        by-line line.TypeReplaced = in-order-typed (s .id) (s .authority) (s .place)
+        by-line line.BothReplaced = in-order-typed id authority place
+        by-line line.Conflicting = pass .1
+
+        by-check : (c : paper.Answer ℕ) → isGiven c ≡ true →
+            inOrder (unlessRefused c s rest .symbol) (keptWhereRefused c ws (wordsAfter s ws authority offered)) ≡ true
+        by-check (given n) f = by-line (lineAt s ws authority offered)
+        by-check nothing f = by-line (lineAt s ws authority offered)
+        by-check (refused n p) f = absurd (false≢true f)
