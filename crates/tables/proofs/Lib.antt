@@ -1,0 +1,5 @@
+-- What the proofs of several functions use.
+pub mod Guard
+pub mod Columns
+pub mod Sentences
+pub mod Single
