@@ -1,12 +1,12 @@
 -- What follows from the rule of the update alone.
 -- Assumes nothing.
-use mathlib.Core.Path.{_≡_, refl, sym, _∙_}
-use mathlib.Core.Bool.{Bool, true, false, cond, not, _&&_, _||_, true≢false, false≢true}
-use mathlib.Core.List.{List, []}
+use mathlib.Core.Path.{_≡_, refl}
+use mathlib.Core.Bool.{Bool, true, false, cond, not, _&&_, _||_, false≢true}
+use mathlib.Core.List.{List}
 use Prim.Native.Nat.{ℕ, _*_, _/_, _%_, _≤_}
 use native.Mathlib.Omega.{arith}
 use lib.Dec.{eqb, leb}
-use lib.ListN.{length, take, drop}
+use lib.ListN.{length}
 use lib.Seq.{take-append-seam}
 use borrow.Author.Tests.{eqb-true, le-leb, le-ltb}
 use Rattle.layers.specs.Layers.{Layer, layers}
@@ -20,13 +20,17 @@ use Rattle.relations.proofs.Theorems.{identical-reflexive}
 use Rattle.coercions.specs.Coercions.{coerces}
 use Rattle.buffers.specs.Written.{written}
 use Rattle.buffers.proofs.Writing.{fits, length-written}
+use Rattle.tables.specs.Order as tables
+use Rattle.tables.specs.Order.{isGood}
 use Rattle.tables.specs.declared.symbol.Symbol.{Symbol}
 use Rattle.answers.specs.Flat.{accepted}
 use Rattle.updates.specs.Updates.{lineOf, answerBy, typed, recordBy, wordsBy, storedOf, lineAt, updated, wordsAfter}
-use Rattle.updates.specs.Lone.{isGiven, passes, holdsType, inOrder, loneCheck, unlessRefused, loneUpdated, keptWhereRefused, loneWordsAfter}
+use Rattle.updates.specs.Lone.{loneInOrder, loneCheck, unlessRefused, loneUpdated, keptWhereRefused, loneWordsAfter}
 use Rattle.updates.specs.declared.lines.Line.{Line}
 use Rattle.updates.specs.declared.lines.Line.the-variants as line
 use Rattle.updates.specs.declared.record.Updated.{Updated}
+use Rattle.updates.proofs.Parts.{present}
+use Rattle.updates.proofs.Alone.{one}
 
 -- the lines, by the tests alone
 abbrev first : Bool → Bool → Bool → Bool → Bool → Line
@@ -149,24 +153,22 @@ module _ (s : Symbol) (ws : List ℕ) (id : ℕ) (authority : Bool) (place : ℕ
         by-line line.Conflicting k e = absurd (omega (arith, e))
 
 -- words that pass the checks
-counted : (ws : List ℕ) → passes ws ≡ true → (length ws ≤ 48) × (length ws % 3 ≡ 0)
-unfolding passes checkOf
+counted : (ws : List ℕ) → isGood (checkOf ws) ≡ true → (length ws ≤ 48) × (length ws % 3 ≡ 0)
+unfolding checkOf
 counted ws e = by-count (badCount (length ws)) refl e
   where
     by-count : (b : Bool) → badCount (length ws) ≡ b →
-        isGiven (cond b (refused 1 0) (unless (badLayer 0 (layers ws)) 2 (unless (misplaced 0 (layers ws)) 3 (given (length ws / 3))))) ≡ true →
+        isGood (cond b (refused 1 0) (unless (badLayer 0 (layers ws)) 2 (unless (misplaced 0 (layers ws)) 3 (given (length ws / 3))))) ≡ true →
         (length ws ≤ 48) × (length ws % 3 ≡ 0)
     by-count true c f = absurd (false≢true f)
     by-count false c f = (start ws c .few, start ws c .whole)
 
--- a lone record passes where what is offered does and it is in order
-both-pass : (x : paper.Answer ℕ) (b : Bool) → isGiven (next x (cond b (given 0) (refused 12 0))) ≡ true →
-    (isGiven x ≡ true) × (b ≡ true)
-both-pass (given n) true e = (refl, refl)
-both-pass (given n) false e = absurd (false≢true e)
-both-pass nothing true e = (refl, refl)
-both-pass nothing false e = absurd (false≢true e)
-both-pass (refused n p) b e = absurd (false≢true e)
+-- what is offered and the lone record pass the checks
+both-pass : (x : paper.Answer ℕ) (b : Bool) → isGood x ≡ true → b ≡ true → next {B = ℕ} x (cond b (given 0) (refused 12 0)) ≡ given 0
+both-pass (given n) true e f = refl
+both-pass (given n) false e f = absurd (false≢true f)
+both-pass nothing b e f = absurd (false≢true e)
+both-pass (refused n p) b e f = absurd (false≢true e)
 
 module _ (s : Symbol) (ws : List ℕ) (id : ℕ) (authority : Bool) (place : ℕ) (offered : List ℕ) where
   abbrev lone : Updated
@@ -188,40 +190,37 @@ module _ (s : Symbol) (ws : List ℕ) (id : ℕ) (authority : Bool) (place : ℕ
       by-check nothing h = unchanged s ws id authority place offered h
       by-check (refused n p) h = (refl, refl)
 
-  module _ (e : isGiven (loneCheck s ws offered) ≡ true) where
-    pass : (passes offered ≡ true) × (inOrder s ws ≡ true)
-    unfolding passes loneCheck
-    pass = both-pass (checkOf offered) (inOrder s ws) e
+  module _ (e : isGood (checkOf offered) ≡ true) (o : loneInOrder s ws ≡ true) where
+    pass : loneCheck s ws offered ≡ given 0
+    unfolding loneCheck
+    pass = both-pass (checkOf offered) (loneInOrder s ws) e o
 
     all : length ws ≡ 48
-    unfolding inOrder
-    all =
-        eqb-true (length ws) 48
-        (left (eqb (length ws) 48) (eqb (s .state) 2 || (eqb (s .state) 1 && holdsType (s .layers) ws)) (pass .1))
+    all = by-count (eqb (length ws) 48) refl (rw (one s ws) at o)
+      where
+        by-count : (l : Bool) → eqb (length ws) 48 ≡ l →
+            cond l (cond (eqb (s .state) 0) false (leb (s .state) 2 && tables.passes (s .state) (s .layers) ws)) false ≡ true → length ws ≡ 48
+        by-count true i f = eqb-true (length ws) 48 i
+        by-count false i f = absurd (false≢true f)
 
-    in-order-typed : (i : ℕ) (a : Bool) (p : ℕ) → inOrder (typed i a p offered) (written offered ws) ≡ true
-    unfolding inOrder
+    in-order-typed : (i : ℕ) (a : Bool) (p : ℕ) → loneInOrder (typed i a p offered) (written offered ws) ≡ true
+    unfolding tables.passes
     in-order-typed i a p =
-        let c = counted offered (pass .0) in
+        let c = counted offered e in
         let few : length offered ≤ length ws = omega (arith, c .0, all) in
         let small : length offered / 3 ≤ 16 = omega (arith, c .0) in
-        rw (length-written offered ws, all, le-leb (length offered / 3) 16 small, stored-written offered ws few (c .1), pass .0)
+        let room : length offered / 3 ≤ length (written offered ws) / 3 = rw (length-written offered ws) (omega (arith, few)) in
+        rw (one, length-written offered ws, all, le-leb (length offered / 3) 16 small, present (length offered / 3) (written offered ws) room, stored-written offered ws few (c .1), e)
 
-    -- A lone record that passes the checks is in order afterwards too.
-    pub stays-in-order : inOrder (lone .symbol) (loneWordsAfter s ws authority offered) ≡ true
+    -- A lone record in order, offered what passes the checks, is in order afterwards too.
+    pub stays-in-order : loneInOrder (lone .symbol) (loneWordsAfter s ws authority offered) ≡ true
     unfolding loneUpdated loneWordsAfter updated wordsAfter
-    stays-in-order = by-check (loneCheck s ws offered) e
+    stays-in-order = rw pass (by-line (lineAt s ws authority offered))
       where
-        by-line : (l : Line) → inOrder (recordBy l s id authority place offered) (wordsBy l offered ws) ≡ true
-        by-line line.Poisoned = pass .1
-        by-line line.IllFormed = pass .1
-        by-line line.Kept = pass .1
+        by-line : (l : Line) → loneInOrder (recordBy l s id authority place offered) (wordsBy l offered ws) ≡ true
+        by-line line.Poisoned = o
+        by-line line.IllFormed = o
+        by-line line.Kept = o
         by-line line.TypeReplaced = in-order-typed (s .id) (s .authority) (s .place)
         by-line line.BothReplaced = in-order-typed id authority place
-        by-line line.Conflicting = pass .1
-
-        by-check : (c : paper.Answer ℕ) → isGiven c ≡ true →
-            inOrder (unlessRefused c s rest .symbol) (keptWhereRefused c ws (wordsAfter s ws authority offered)) ≡ true
-        by-check (given n) f = by-line (lineAt s ws authority offered)
-        by-check nothing f = by-line (lineAt s ws authority offered)
-        by-check (refused n p) f = absurd (false≢true f)
+        by-line line.Conflicting = o
