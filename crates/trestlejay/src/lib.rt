@@ -3,6 +3,7 @@ mod measures;
 mod pairs;
 mod properties;
 mod starts;
+mod symbols;
 mod uses;
 
 pub use answers::Answer;
@@ -31,6 +32,8 @@ pub use starts::tj_fully_dereferenced;
 pub use starts::tj_get_element_type;
 pub use starts::tj_get_pointee_type;
 pub use starts::tj_get_viewee_type;
+pub use symbols::tj_update_symbol;
+pub use tables::Symbol;
 pub use uses::tj_can_be_constant;
 pub use uses::tj_can_be_parameter;
 pub use uses::tj_can_be_returned;
