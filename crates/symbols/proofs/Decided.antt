@@ -4,7 +4,6 @@ use mathlib.Core.Path.{_≡_, refl, sym, ap, subst, _∙_}
 use mathlib.Core.Bool.{Bool, true, false, cond, not, false≢true}
 use mathlib.Core.List.{List, [], _++_, append-nil}
 use Prim.Native.Nat.{ℕ, _+_, _-_, _*_, _≤_, _<_}
-use native.Mathlib.Nat.{zero-add}
 use native.Mathlib.Omega.{arith}
 use lib.Dec.{ltb}
 use lib.ListN.{length, take, drop, getD, set, length-drop, drop-of-length-le}
@@ -17,9 +16,9 @@ use Rattle.layers.specs.Answer.{ofChecked, given, nothing, refused}
 use Rattle.layers.specs.declared.answers.Checked.{Checked}
 use Rattle.layers.specs.declared.answers.Checked.the-variants as checked
 use Rattle.tables.specs.declared.symbol.Symbol.{Symbol}
-use Rattle.tables.specs.Rows.{vacant, rowAt, readFrom, under, rowUnder}
+use Rattle.tables.specs.Rows.{vacant, readFrom, rowUnder}
 use Rattle.tables.specs.Order.{inOrder, slotFor, firstFree, slotIn, freeIn}
-use Rattle.tables.proofs.Columns.{length-read, getD-read}
+use Rattle.tables.proofs.Columns.{length-read, row-found}
 use Rattle.tables.proofs.Sentences.{slot-is, free-is, slot-has}
 use Rattle.tables.proofs.Ordered.{Ordered, ordered}
 use Rattle.answers.specs.declared.flat.Answer.{Answer}
@@ -38,10 +37,10 @@ module _ (ws w : List ℕ) (n id : ℕ) (o : Bool) (e : o ≡ inOrder (readFrom 
   out-of-order f = rw (← e, not-true o f)
 
   module _ (f : not o ≡ false) (k : ℕ) (q : k ≡ slotIn ws n id) where
-    few : n ≤ 128
+    pub few : n ≤ 128
     few = subst (λ (m : ℕ). m ≤ 128) (length-read ws 0 n) (ordered (readFrom ws 0 n) w (sym e ∙ not-false o f) .few)
 
-    k-is : k ≡ slotFor id (readFrom ws 0 n)
+    pub k-is : k ≡ slotFor id (readFrom ws 0 n)
     k-is = slot-is ws n id k few q
 
     pub found-there : k < n → way.Found k ≡ placeOf id (readFrom ws 0 n) w
@@ -232,11 +231,10 @@ module _ (op : Operation) (id : ℕ) (authority : Bool) (place mark : ℕ) (offe
       found-part = near k found .1
 
       row-is : (s : Symbol) → s ≡ rowUnder flat k id → s ≡ getD table k vacant
-      unfolding rowUnder rowAt
       row-is s q =
-          let here = getD-read flat 0 n k (subst (λ (m : ℕ). k < m) (length-read flat 0 n) (found .below)) ∙ ap (rowAt flat) (zero-add k) in
-          let has : getD flat k 0 ≡ id = sym (ap (λ (x : Symbol). x .id) here) ∙ found-has op id offered table store k (sym e ∙ h) in
-          (rw (lt-ltb k 128 (near k found .0)) at q) ∙ (λ t. under (sym has t) (rowAt flat k)) ∙ sym here
+          let m = length-read flat 0 n in
+          row-found flat n id k s (subst (λ (j : ℕ). j ≤ 128) m (found .order .few)) (subst (λ (j : ℕ). k < j) m (found .below))
+          (found-has op id offered table store k (sym e ∙ h)) q
 
       module _ (s : Symbol) (u : Updated) (after : List ℕ) (q : s ≡ rowUnder flat k id)
           (d : u ≡ seen (overwrites op s (tail k) id authority place mark offered)) where
