@@ -2,4 +2,5 @@
 pub mod Guard
 pub mod Columns
 pub mod Sentences
+pub mod Ordered
 pub mod Single

@@ -10,12 +10,12 @@ use native.Mathlib.Omega.{arith}
 use lib.ListN.{length, take, drop, getD, length-take, length-drop, drop-of-length-le}
 use lib.Seq.{take-all, drop-drop}
 use lib.Dec.{eqb, leb, ltb}
-use borrow.Author.Tests.{le-leb, lt-leb, eq-eqb, ne-eqb, lt-ltb, le-ltb}
+use borrow.Author.Tests.{le-leb, lt-leb, eq-eqb, ne-eqb, lt-ltb, le-ltb, eqb-true}
 use Rattle.layers.specs.Answer.{ofChecked}
 use Rattle.layers.specs.Check.{checkOf}
 use Rattle.layers.specs.declared.answers.Checked.{Checked}
 use Rattle.layers.specs.declared.answers.Checked.the-variants.{Good, Refused}
-use Rattle.tables.specs.Rows.{rowAt, readFrom, gathered}
+use Rattle.tables.specs.Rows.{vacant, rowAt, readFrom, gathered}
 use Rattle.tables.specs.Order.{free, knownStates, allFree, takenFirst, taken, hasId, repeats, isGood, passes, allPass, inOrder, firstFree, slotFor, freeIn, slotIn, slotOf}
 use Rattle.tables.specs.declared.symbol.Symbol.{Symbol}
 use Rattle.tables.proofs.Columns.{read-more, read-end, read-all, read-take, read-drop, length-read, swap}
@@ -206,6 +206,15 @@ pub slot-same : (table : List Symbol) (id : ℕ) → slotIn (gathered table) (le
 unfolding slotIn slotOf
 slot-same table id = swap table (length table) (slotFor id)
 
+-- the searches through the columns of at most 128 rows
+pub slot-is : (ws : List ℕ) (n id k : ℕ) → n ≤ 128 → k ≡ slotIn ws n id → k ≡ slotFor id (readFrom ws 0 n)
+unfolding slotIn
+slot-is ws n id k h e = e ∙ (rw (le-ltb 128 n h))
+
+pub free-is : (ws : List ℕ) (n k : ℕ) → n ≤ 128 → k ≡ freeIn ws n → k ≡ firstFree (readFrom ws 0 n)
+unfolding freeIn
+free-is ws n k h e = e ∙ (rw (le-ltb 128 n h))
+
 -- the taken records are those before the first free one, where the rest are free
 pub free-within : (table : List Symbol) → firstFree table ≤ length table
 unfolding firstFree
@@ -263,8 +272,7 @@ module _ (ws w : List ℕ) (n : ℕ) where
 
   module _ (k : ℕ) (few : n ≤ 128) (q : k ≡ freeIn ws n) where
     k-is : k ≡ firstFree table
-    unfolding freeIn
-    k-is = q ∙ (rw (le-ltb 128 n few))
+    k-is = free-is ws n k few q
 
     pub k-within : k ≤ n
     k-within = omega (arith, k-is, sized, free-within table)
@@ -285,3 +293,16 @@ module _ (ws w : List ℕ) (n : ℕ) where
         both true f g =
             rw (sized, le-leb n 128 few, eq-eqb (length w) (n * 48) full, ← a, ← f, ← g refl, ← d) (sym (and-true (x && true && not z && u)))
         both false f g = rw (← f, and-false x, and-false (leb (length table) 128 && knownStates table))
+
+-- the record that the search found has the id
+pub slot-has : (id : ℕ) (table : List Symbol) → slotFor id table < length table → getD table (slotFor id table) vacant .id ≡ id
+unfolding slotFor
+slot-has id [] h = absurd (omega arith)
+slot-has id (s ∷ table) h = both (eqb (s .id) id) refl (free s) h (slot-has id table)
+  where
+    both : (t : Bool) → eqb (s .id) id ≡ t → (f : Bool) → cond (t && not f) 0 (suc (slotFor id table)) < suc (length table) →
+        (slotFor id table < length table → getD table (slotFor id table) vacant .id ≡ id) →
+        getD (s ∷ table) (cond (t && not f) 0 (suc (slotFor id table))) vacant .id ≡ id
+    both true e false h ih = eqb-true (s .id) id e
+    both true e true h ih = ih (omega arith)
+    both false e f h ih = ih (omega arith)
