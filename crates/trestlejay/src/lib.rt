@@ -2,8 +2,8 @@
 mod measures;
 mod pairs;
 mod properties;
+mod records;
 mod starts;
-mod symbols;
 mod uses;
 
 pub use answers::Answer;
@@ -28,11 +28,17 @@ pub use properties::tj_is_signed;
 pub use properties::tj_is_slice_pointer;
 pub use properties::tj_is_void;
 pub use properties::tj_is_wellformed;
+pub use records::tj_forward_declare_poison;
+pub use records::tj_forward_declare_type;
+pub use records::tj_get_symbol;
+pub use records::tj_put_nothing;
+pub use records::tj_put_poison;
+pub use records::tj_put_type;
+pub use records::tj_update_symbol;
 pub use starts::tj_fully_dereferenced;
 pub use starts::tj_get_element_type;
 pub use starts::tj_get_pointee_type;
 pub use starts::tj_get_viewee_type;
-pub use symbols::tj_update_symbol;
 pub use tables::Symbol;
 pub use uses::tj_can_be_constant;
 pub use uses::tj_can_be_parameter;

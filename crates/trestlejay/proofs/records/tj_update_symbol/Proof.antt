@@ -1,4 +1,4 @@
--- `tj_update_symbol` hands its parameters on to `do_update_symbol` of the crate `updates`.
+-- `tj_update_symbol` only calls `do_update_symbol` of the crate `updates`.
 -- Assumes nothing.
 use mathlib.Core.Path.{refl}
 use mathlib.Core.List.{[], _∷_}
@@ -16,7 +16,6 @@ use types.Kit.{Given, raw, _$_, _∵_, !, qed, by, move, keep}
 use types.Run.{look, init, forget, stop, hop, fld, from, load, addr, and-then, no-more, assigns, land, returns, enter, alloc1, alloc0, params1, pass1, pass0, free1, free0}
 use types.Part.{agg, whole, sub, look-in}
 use sound.WpLaws.{FmC, fmOf}
-use denote.RattleType.{flat}
 use denote.Laws.{Are, Ises, Spells}
 use denote.Plain.{uint-vals, uint-tells, bool-vals, bool-tells}
 use denote.Builtin.{u64}
@@ -35,10 +34,10 @@ use Rattle.answers.proofs.flat.Answer.Laws as R′
 use Rattle.updates.proofs.do_update_symbol.Symbol as callee
 use Rattle.updates.proofs.do_update_symbol.Met as callee-thm
 use Rattle.trestlejay.proofs.Pass.{Promised, spelt, at-spelt, answered, handed-out}
-use Rattle.trestlejay.proofs.symbols.tj_update_symbol.Key as key
-use Rattle.trestlejay.proofs.symbols.tj_update_symbol as f
-use Rattle.trestlejay.proofs.symbols.tj_update_symbol.Statement as stated
-use Rattle.trestlejay.proofs.symbols.tj_update_symbol.Code as code
+use Rattle.trestlejay.proofs.records.tj_update_symbol.Key as key
+use Rattle.trestlejay.proofs.records.tj_update_symbol as f
+use Rattle.trestlejay.proofs.records.tj_update_symbol.Statement as stated
+use Rattle.trestlejay.proofs.records.tj_update_symbol.Code as code
 
 abbrev spells : (κs : Lfts 3) → Spells (typesAt (f.signature .params) κs)
 spells κs = (ptr-vals, (slice-vals, (uint-vals w32, (bool-vals, (uint-vals w64, (slice-vals, tt))))))
@@ -98,7 +97,7 @@ module _ {M : Type 1} (𝓤 : URA M) (H : Heap 𝓤) (A : Atoms 𝓤) (W : Given
   meets : (𝓣 : Tables 𝓤 H) → Triple 𝓤 (𝓣 .C callee.name) P → Meets 𝓤 H A f.signature (WpFn 𝓤 H (𝓣 .C) (𝓣 .Λ) code.function) (f.spec 𝓤 H A at-mem run)
   meets 𝓣 known = at-spelt 𝓤 H A f.signature (f.spec 𝓤 H A at-mem run) spells
       (λ κs. (mut-tells (named 0) (κs .0) T.the-row, (mut-slice-tells (named 1) (κs .1 .0) u64, (uint-tells w32, (bool-tells, (uint-tells w64, (shr-slice-tells (named 2) (κs .1 .1 .0) u64, tt)))))))
-      (WpFn 𝓤 H (𝓣 .C) (𝓣 .Λ) code.function) (λ κs qs b a g are. walk κs qs b a are (𝓣 .C) (𝓣 .Λ) (fmOf 𝓤 H (W .laws) 𝓣) known)
+      (WpFn 𝓤 H (𝓣 .C) (𝓣 .Λ) code.function) (λ κs qs b a _ are. walk κs qs b a are (𝓣 .C) (𝓣 .Λ) (fmOf 𝓤 H (W .laws) 𝓣) known)
 
 pub tj-update-symbol-spec : {M : Type 1} → stated.statement M
 unfolding code.routine tablesOf
