@@ -4,9 +4,9 @@
 use crate::ask::{Answer, FIXING};
 
 #[repr(C)]
-struct Raw {
-    refusal: u64,
-    value: u64,
+pub struct Raw {
+    pub refusal: u64,
+    pub value: u64,
 }
 
 extern "C" {

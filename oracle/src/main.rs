@@ -15,6 +15,8 @@ mod face;
 mod prelude;
 mod random;
 #[cfg(face)]
+mod records;
+#[cfg(face)]
 mod small;
 mod smoke;
 mod types;

@@ -1,0 +1,5 @@
+-- What the proofs of several functions use.
+pub mod Decided
+pub mod Whole
+pub mod Found
+pub mod Single

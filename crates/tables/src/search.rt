@@ -1,0 +1,53 @@
+use crate::rows::gather;
+use crate::symbol::Symbol;
+ghost use mathlib.Core.Path.{_≡_};
+ghost use Rattle.tables.specs.Order.{freeIn, slotIn, slotOf};
+
+// The first of n records that is free, or n.
+pub fn first_free(flat: &[u64; 768], n: usize) -> usize
+    ensures { λ r. ⌜ r ≡ freeIn (now (flat .entry)) n ⌝ }
+{
+    if n > 128 {
+        return n;
+    }
+    let mut i = 0;
+    while i < n {
+        if flat[i + 384] == 0 {
+            return i;
+        }
+        i += 1;
+    }
+    i
+}
+
+// The first of n records that is taken and has the id, or n.
+pub fn slot_of(flat: &[u64; 768], n: usize, id: u32) -> usize
+    ensures { λ r. ⌜ r ≡ slotIn (now (flat .entry)) n id ⌝ }
+{
+    if n > 128 {
+        return n;
+    }
+    let wanted = id as u64;
+    let mut i = 0;
+    while i < n {
+        if (flat[i] == wanted) & (flat[i + 384] != 0) {
+            return i;
+        }
+        i += 1;
+    }
+    i
+}
+
+fn slot_among(flat: [u64; 768], n: usize, id: u32) -> usize
+    ensures { λ r. ⌜ r ≡ slotIn flat n id ⌝ }
+{
+    slot_of(&flat, n, id)
+}
+
+// The first record of a table that is taken and has the id, or the number of records.
+pub fn find_symbol(table: &[Symbol], id: u32) -> usize
+    ensures { λ r. ⌜ r ≡ slotOf (now (table .entry)) id ⌝ }
+{
+    let flat = gather(table);
+    slot_among(flat, table.len(), id)
+}

@@ -1,0 +1,8 @@
+-- What the proofs of several functions use.
+pub mod Choices
+pub mod Parts
+pub mod Alone
+pub mod Passing
+pub mod Outcomes
+pub mod Theorems
+pub mod Single

@@ -1,0 +1,16 @@
+use borrow.Author.Needs.{needs}
+use Rattle.updates.proofs.Alone.{miscounted, poisoned-fits, not-taken, too-many, typed-fits}
+use Rattle.updates.proofs.lone.in_order.Statement.{statement}
+use Rattle.updates.proofs.lone.in_order.Tie as tie
+
+pub in-order-spec : {M : Type 1} → statement M
+in-order-spec =
+    tie.close
+    (tie.spec
+    (λ c. search miscounted)
+    (λ c. search poisoned-fits)
+    (λ c. search not-taken)
+    (λ c. search too-many)
+    (λ c κs. search needs)
+    (λ c κs. search needs)
+    (λ c. search typed-fits))

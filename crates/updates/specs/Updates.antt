@@ -1,0 +1,81 @@
+-- "An update changes the lent symbol itself, by the first line that applies".
+use mathlib.Core.Bool.{Bool, cond, not, _&&_, _||_}
+use mathlib.Core.List.{List, []}
+use Prim.Native.Nat.{ℕ, _*_, _/_}
+use lib.Dec.{eqb, ltb}
+use lib.ListN.{length, take}
+use Rattle.layers.specs.Layers.{Layer, layers}
+use Rattle.forms.specs.Formed.{wellFormed}
+use Rattle.relations.specs.Relations.{identical, declared, concretization}
+use Rattle.coercions.specs.Coercions.{coerces}
+use Rattle.buffers.specs.Written.{written}
+use Rattle.tables.specs.declared.symbol.Symbol.{Symbol}
+use Rattle.answers.specs.declared.flat.Answer.{Answer}
+use Rattle.answers.specs.Flat.{accepted, notAccepted}
+use Rattle.updates.specs.declared.lines.Line.{Line}
+use Rattle.updates.specs.declared.lines.Line.the-variants as line
+use Rattle.updates.specs.declared.record.Updated.{Updated}
+
+-- "poisoned: accepted, nothing changes. Offered type, then stored type, ill formed: 4. Identical, or stored is a
+-- concretization of offered: accepted, nothing changes. Symbol authoritative and offered is declared as stored: type
+-- replaced, identifier kept. New identifier authoritative and offered is a concretization of or coerces into stored: both
+-- replaced. Else 7."
+unfoldable pub lineOf : Bool → Bool → Bool → List Layer → List Layer → Line
+lineOf poisoned authoritative newly stored offered =
+    cond poisoned line.Poisoned
+    (cond (not (wellFormed offered && wellFormed stored)) line.IllFormed
+    (cond (identical stored offered || concretization stored offered) line.Kept
+    (cond (authoritative && declared offered stored) line.TypeReplaced
+    (cond (newly && (concretization offered stored || coerces offered stored)) line.BothReplaced
+    line.Conflicting))))
+
+-- Accepted: 0 where nothing changes, 1 where the type is replaced, 2 where both are. "Every refusal returns its number and
+-- a place (0 unless named)".
+abbrev pub answerBy : Line → Answer
+answerBy line.Poisoned = accepted 0
+answerBy line.IllFormed = notAccepted 4 0
+answerBy line.Kept = accepted 0
+answerBy line.TypeReplaced = accepted 1
+answerBy line.BothReplaced = accepted 2
+answerBy line.Conflicting = notAccepted 7 0
+
+-- A record of a type that was written, under an identifier: "writing a type sets the mark to 0".
+abbrev pub typed : ℕ → Bool → ℕ → List ℕ → Symbol
+typed id authority place ws =
+    record { id = id; authority = authority; place = place; state = 1; layers = length ws / 3; mark = 0 }
+
+abbrev pub recordBy : Line → Symbol → ℕ → Bool → ℕ → List ℕ → Symbol
+recordBy line.Poisoned s id authority place offered = s
+recordBy line.IllFormed s id authority place offered = s
+recordBy line.Kept s id authority place offered = s
+recordBy line.TypeReplaced s id authority place offered = typed (s .id) (s .authority) (s .place) offered
+recordBy line.BothReplaced s id authority place offered = typed id authority place offered
+recordBy line.Conflicting s id authority place offered = s
+
+-- "Writing a type touches that part's first words only."
+abbrev pub wordsBy : Line → List ℕ → List ℕ → List ℕ
+wordsBy line.Poisoned offered ws = ws
+wordsBy line.IllFormed offered ws = ws
+wordsBy line.Kept offered ws = ws
+wordsBy line.TypeReplaced offered ws = written offered ws
+wordsBy line.BothReplaced offered ws = written offered ws
+wordsBy line.Conflicting offered ws = ws
+
+-- The words of the stored type: the first three for each layer. No words where they are not there.
+unfoldable pub storedOf : ℕ → List ℕ → List ℕ
+storedOf n ws = cond (ltb (length ws / 3) n) [] (take (n * 3) ws)
+
+-- The line that applies to a record, its words, the new identifier's authority and the offered words. "2 poisoned"
+abbrev pub lineAt : Symbol → List ℕ → Bool → List ℕ → Line
+lineAt s ws authority offered =
+    lineOf (eqb (s .state) 2) (s .authority) authority (layers (storedOf (s .layers) ws)) (layers offered)
+
+unfoldable pub updated : Symbol → List ℕ → ℕ → Bool → ℕ → List ℕ → Updated
+updated s ws id authority place offered =
+    record {
+      symbol = recordBy (lineAt s ws authority offered) s id authority place offered;
+      answer = answerBy (lineAt s ws authority offered);
+    }
+
+unfoldable pub wordsAfter : Symbol → List ℕ → Bool → List ℕ → List ℕ
+wordsAfter s ws authority offered = wordsBy (lineAt s ws authority offered) offered ws

@@ -1,0 +1,95 @@
+use crate::record::Updated;
+use crate::record::stored;
+use crate::record::update;
+use answers::Answer;
+use answers::refused;
+use layers::Checked;
+use layers::check_type;
+use tables::Symbol;
+ghost use mathlib.Core.Path.{_≡_};
+ghost use Rattle.layers.specs.Check.{checkOf};
+ghost use Rattle.tables.specs.Order.{isGood};
+ghost use Rattle.updates.specs.Lone as rules;
+
+// Whether words pass the checks 1 to 3.
+fn passes(ws: &[u64]) -> bool
+    ensures { λ r. ⌜ r ≡ isGood (checkOf (now (ws .entry))) ⌝ }
+{
+    match check_type(ws) {
+        Checked::Refused {
+            number: _,
+            place: _,
+        } => false,
+        Checked::Good(_) => true,
+    }
+}
+
+// Whether a taken record with its words is a table of one that is in order.
+fn in_order(s: Symbol, words: &[u64]) -> bool
+    ensures { λ r. ⌜ r ≡ rules.loneInOrder s (now (words .entry)) ⌝ }
+{
+    if words.len() != 48 {
+        return false;
+    }
+    let state = s.state;
+    let n = s.layers;
+    if state == 2 {
+        return true;
+    }
+    if state != 1 {
+        return false;
+    }
+    if n > 16 {
+        return false;
+    }
+    passes(stored(words, n))
+}
+
+// Updates a record that stands alone, with its 48 words.
+pub fn update_lone(
+    s: Symbol,
+    words: &mut [u64],
+    id: u32,
+    authority: bool,
+    place: u64,
+    offered: &[u64],
+) -> Updated
+    ensures { λ r. ⌜ (r ≡ rules.loneUpdated s (now (words .entry)) id authority place (now (offered .entry)))
+        × (now (words .exit) ≡ rules.loneWordsAfter s (now (words .entry)) authority (now (offered .entry))) ⌝ }
+{
+    match check_type(offered) {
+        Checked::Refused { number, place: at } => Updated {
+            symbol: s,
+            answer: refused(number, at),
+        },
+        Checked::Good(_) => {
+            if in_order(s, words) {
+                update(s, words, id, authority, place, offered)
+            } else {
+                Updated {
+                    symbol: s,
+                    answer: refused(12, 0),
+                }
+            }
+        }
+    }
+}
+
+// The same, of a symbol that is lent.
+pub fn do_update_symbol(
+    symbol: &mut Symbol,
+    words: &mut [u64],
+    id: u32,
+    authority: bool,
+    place: u64,
+    offered: &[u64],
+) -> Answer
+    ensures { λ r. ⌜ (r ≡ rules.loneUpdated (now (symbol .entry)) (now (words .entry)) id authority place (now (offered .entry)) .answer)
+        × (now (symbol .exit) ≡ rules.loneUpdated (now (symbol .entry)) (now (words .entry)) id authority place (now (offered .entry)) .symbol)
+        × (now (words .exit) ≡ rules.loneWordsAfter (now (symbol .entry)) (now (words .entry)) authority (now (offered .entry))) ⌝ }
+{
+    let s = *symbol;
+    let u = update_lone(s, words, id, authority, place, offered);
+    *symbol = u.symbol;
+    u.answer
+}

@@ -1,0 +1,92 @@
+use crate::lines::Line;
+use crate::lines::decide;
+use answers::Answer;
+use answers::accepted;
+use answers::refused;
+use buffers::write_words;
+use tables::Symbol;
+ghost use mathlib.Core.Path.{_≡_};
+ghost use Rattle.updates.specs.Updates as rules;
+
+// What an update leaves in the record, and its answer.
+pub struct Updated {
+    pub symbol: Symbol,
+    pub answer: Answer,
+}
+
+// The words of the stored type; no words where they are not there.
+pub(crate) fn stored(words: &[u64], layers: u64) -> &[u64]
+    ensures { λ r. ⌜ now r ≡ rules.storedOf layers (now (words .entry)) ⌝ }
+{
+    if layers > (words.len() / 3) as u64 {
+        return &words[..0];
+    }
+    &words[..layers as usize * 3]
+}
+
+// A record of a type that was written.
+fn typed(id: u32, authority: bool, place: u64, offered: &[u64]) -> Symbol
+    ensures { λ r. ⌜ r ≡ rules.typed id authority place (now (offered .entry)) ⌝ }
+{
+    Symbol {
+        id,
+        authority,
+        place,
+        state: 1,
+        layers: (offered.len() / 3) as u64,
+        mark: 0,
+    }
+}
+
+// Updates a record whose words are the first of those lent.
+pub fn update(
+    s: Symbol,
+    words: &mut [u64],
+    id: u32,
+    authority: bool,
+    place: u64,
+    offered: &[u64],
+) -> Updated
+    ensures answer { λ r. ⌜ r ≡ rules.updated s (now (words .entry)) id authority place (now (offered .entry)) ⌝ }
+    ensures written { λ _. ⌜ now (words .exit) ≡ rules.wordsAfter s (now (words .entry)) authority (now (offered .entry)) ⌝ }
+{
+    let line = decide(
+        s.state == 2,
+        s.authority,
+        authority,
+        stored(words, s.layers),
+        offered,
+    );
+    match line {
+        Line::Poisoned => Updated {
+            symbol: s,
+            answer: accepted(0),
+        },
+        Line::IllFormed => Updated {
+            symbol: s,
+            answer: refused(4, 0),
+        },
+        Line::Kept => Updated {
+            symbol: s,
+            answer: accepted(0),
+        },
+        Line::TypeReplaced => {
+            write_words(words, offered);
+            Updated {
+                symbol: typed(s.id, s.authority, s.place, offered),
+                answer: accepted(1),
+            }
+        }
+        Line::BothReplaced => {
+            write_words(words, offered);
+            Updated {
+                symbol: typed(id, authority, place, offered),
+                answer: accepted(2),
+            }
+        }
+        Line::Conflicting => Updated {
+            symbol: s,
+            answer: refused(7, 0),
+        },
+    }
+}
