@@ -6,6 +6,7 @@ mod slots;
 mod ways;
 
 pub use change::change_symbol;
+pub use change::poison_symbol;
 pub use get::get_symbol;
 pub use get::stored_type;
 pub use nothing::put_nothing;
