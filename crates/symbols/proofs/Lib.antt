@@ -2,4 +2,5 @@
 pub mod Decided
 pub mod Whole
 pub mod Found
+pub mod Deeds
 pub mod Single
