@@ -4,4 +4,5 @@ pub mod Parts
 pub mod Alone
 pub mod Passing
 pub mod Outcomes
+pub mod Theorems
 pub mod Single
