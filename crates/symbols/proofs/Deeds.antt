@@ -21,27 +21,25 @@ use Rattle.buffers.proofs.Writing.{fits, length-written}
 use Rattle.tables.specs.declared.symbol.Symbol.{Symbol}
 use Rattle.tables.specs.Order.{free, isGood, passes}
 use Rattle.answers.specs.declared.flat.Answer.{Answer}
-use Rattle.updates.specs.Updates.{lineAt, recordBy, wordsBy, answerBy, updated, wordsAfter}
-use Rattle.updates.specs.declared.lines.Line.{Line}
-use Rattle.updates.specs.declared.lines.Line.the-variants as line
+use Rattle.answers.specs.Flat.{accepted}
+use Rattle.updates.proofs.Cases.{by-lines}
 use Rattle.symbols.specs.Changes.{offeredCheck, poisoned, typed, Deed, deed, overwrites, inserts}
 use Rattle.symbols.specs.declared.ways.Operation.{Operation}
 use Rattle.symbols.specs.declared.ways.Operation.the-variants as operation
-
-abbrev pub notRefused : paper.Answer ℕ → Bool
-notRefused (given n) = true
-notRefused nothing = true
-notRefused (refused n p) = false
+use Rattle.symbols.proofs.Decided.{notRefused}
 
 -- words that are not refused
 module _ (ws : List ℕ) (e : notRefused (checkOf ws) ≡ true) where
   counted : badCount (length ws) ≡ false
   unfolding checkOf
-  counted = by-count (badCount (length ws)) refl e
+  counted =
+      by-count (badCount (length ws)) refl
+      (check.unless (badLayer 0 (layers ws)) 2 (check.unless (misplaced 0 (layers ws)) 3 (given (length ws / 3)))) e
     where
-      by-count : (b : Bool) → badCount (length ws) ≡ b → {a : paper.Answer ℕ} → notRefused (cond b (refused 1 0) a) ≡ true → badCount (length ws) ≡ false
-      by-count true q f = absurd (false≢true f)
-      by-count false q f = q
+      by-count : (b : Bool) → badCount (length ws) ≡ b → (a : paper.Answer ℕ) → notRefused (cond b (refused 1 0) a) ≡ true →
+          badCount (length ws) ≡ false
+      by-count true q a f = absurd (false≢true f)
+      by-count false q a f = q
 
   pub few-words : length ws ≤ 48
   few-words = start ws counted .few
@@ -51,14 +49,14 @@ module _ (ws : List ℕ) (e : notRefused (checkOf ws) ≡ true) where
 
   pub good-words : isGood (checkOf ws) ≡ true
   unfolding checkOf
-  good-words = by-parts (badCount (length ws)) (badLayer 0 (layers ws)) (misplaced 0 (layers ws)) e
+  good-words = by-parts (badCount (length ws)) (badLayer 0 (layers ws)) (misplaced 0 (layers ws)) (length ws / 3) e
     where
-      by-parts : (b : Bool) (p q : Place) {n : ℕ} → notRefused (cond b (refused 1 0) (check.unless p 2 (check.unless q 3 (given n)))) ≡ true →
+      by-parts : (b : Bool) (p q : Place) (n : ℕ) → notRefused (cond b (refused 1 0) (check.unless p 2 (check.unless q 3 (given n)))) ≡ true →
           isGood (cond b (refused 1 0) (check.unless p 2 (check.unless q 3 (given n)))) ≡ true
-      by-parts true p q f = absurd (false≢true f)
-      by-parts false (at i) q f = absurd (false≢true f)
-      by-parts false nowhere (at i) f = absurd (false≢true f)
-      by-parts false nowhere nowhere f = refl
+      by-parts true p q n f = absurd (false≢true f)
+      by-parts false (at i) q n f = absurd (false≢true f)
+      by-parts false nowhere (at i) n f = absurd (false≢true f)
+      by-parts false nowhere nowhere n f = refl
 
   -- written over a slot
   module _ (b : List ℕ) (long : 48 ≤ length b) where
@@ -106,11 +104,9 @@ module _ (id : ℕ) (ws : List ℕ) (long : 48 ≤ length ws) (a : Answer) where
       }
 
   fine-poisoned : (authority : Bool) (place mark : ℕ) → Fine id ws (deed (poisoned id authority place mark) ws a)
+  unfolding passes
   fine-poisoned authority place mark =
-      record { named = refl; known = refl; taken = refl; pass = poison-passes; rest = refl; sized = refl }
-    where
-      poison-passes : passes 2 0 ws ≡ true
-      poison-passes = ?
+      record { named = refl; known = refl; taken = refl; pass = refl; rest = refl; sized = refl }
 
   fine-same : (s : Symbol) → s .id ≡ id → leb (s .state) 2 ≡ true → free s ≡ false → passes (s .state) (s .layers) ws ≡ true →
       Fine id ws (deed s ws a)
@@ -124,21 +120,16 @@ module _ (id : ℕ) (authority : Bool) (place mark : ℕ) (offered ws : List ℕ
   inserts-fine operation.ForwardPoison e = fine-poisoned id ws long _ authority place mark
 
   module _ (s : Symbol) (n : s .id ≡ id) (k : leb (s .state) 2 ≡ true) (t : free s ≡ false) (p : passes (s .state) (s .layers) ws ≡ true) where
-    by-line : (l : Line) → notRefused (checkOf offered) ≡ true →
-        Fine id ws (deed (recordBy l s id authority place offered) (wordsBy l offered ws) (answerBy l))
-    by-line line.Poisoned e = fine-same id ws long _ s n k t p
-    by-line line.IllFormed e = fine-same id ws long _ s n k t p
-    by-line line.Kept e = fine-same id ws long _ s n k t p
-    by-line line.TypeReplaced e =
-        subst (λ (i : ℕ). Fine i ws (deed (typed (s .id) (s .authority) (s .place) offered) (written offered ws) (answerBy line.TypeReplaced))) n
-        (fine-typed (s .id) ws long _ (s .authority) (s .place) offered e)
-    by-line line.BothReplaced e = fine-typed id ws long _ authority place offered e
-    by-line line.Conflicting e = fine-same id ws long _ s n k t p
-
     pub overwrites-fine : (op : Operation) → notRefused (offeredCheck op offered) ≡ true →
         Fine id ws (overwrites op s ws id authority place mark offered)
-    unfolding updated wordsAfter
-    overwrites-fine operation.PutType e = by-line (lineAt s ws authority offered) e
+    overwrites-fine operation.PutType e =
+        by-lines s ws id authority place offered (λ r zs a. Fine id ws (deed r zs a))
+        (fine-same id ws long _ s n k t p)
+        (fine-same id ws long _ s n k t p)
+        (subst (λ (i : ℕ). Fine i ws (deed (typed (s .id) (s .authority) (s .place) offered) (written offered ws) (accepted 1))) n
+        (fine-typed (s .id) ws long _ (s .authority) (s .place) offered e))
+        (fine-typed id ws long _ authority place offered e)
+        (fine-same id ws long _ s n k t p)
     overwrites-fine operation.PutPoison e =
         subst (λ (i : ℕ). Fine i ws (overwrites operation.PutPoison s ws id authority place mark offered)) n
         (fine-poisoned (s .id) ws long _ (s .authority) (s .place) mark)

@@ -3,4 +3,5 @@ pub mod Decided
 pub mod Whole
 pub mod Found
 pub mod Deeds
+pub mod Theorems
 pub mod Single

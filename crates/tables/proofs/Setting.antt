@@ -4,12 +4,12 @@ use mathlib.Core.Path.{_≡_, refl, sym, ap, subst, _∙_}
 use mathlib.Core.Bool.{Bool, true, false, cond, not, _&&_, _||_, true≢false, false≢true}
 use mathlib.Core.List.{List, [], _∷_, _++_}
 use mathlib.Core.Logic.{_≢_}
-use Prim.Native.Nat.{ℕ, zero, suc, _+_, _*_, _≤_, _<_}
+use Prim.Native.Nat.{ℕ, zero, suc, _+_, _-_, _*_, _≤_, _<_}
 use native.Mathlib.Nat.{not-suc-le-zero}
 use native.Mathlib.Omega.{arith}
 use lib.Dec.{eqb, leb, ltb}
 use lib.ListN.{length, take, drop, getD, set, length-drop, length-take}
-use lib.Seq.{take-append-le, drop-append-le, take-take, drop-drop, take-add, drop-at, length-take-le}
+use lib.Seq.{take-append-le, drop-append-le, take-take, drop-drop, take-add, drop-at, drop-append-add, length-take-le}
 use borrow.Author.Tests.{leb-true, eqb-false, eq-eqb, ne-eqb}
 use Rattle.tables.specs.declared.symbol.Symbol.{Symbol}
 use Rattle.tables.specs.Rows.{vacant}
@@ -39,6 +39,12 @@ states-set [] k s e h = e
 states-set (x ∷ table) zero s e h = rw h (and-true-second (leb (x .state) 2) (knownStates table) e)
 states-set (x ∷ table) (suc k) s e h =
     rw (and-true-first (leb (x .state) 2) (knownStates table) e) (states-set table k s (and-true-second (leb (x .state) 2) (knownStates table) e) h)
+
+pub state-at : (table : List Symbol) (k : ℕ) → knownStates table ≡ true → k < length table → leb (getD table k vacant .state) 2 ≡ true
+unfolding knownStates
+state-at [] k e h = absurd (not-suc-le-zero h)
+state-at (x ∷ table) zero e h = and-true-first (leb (x .state) 2) (knownStates table) e
+state-at (x ∷ table) (suc k) e h = state-at table k (and-true-second (leb (x .state) 2) (knownStates table) e) (omega arith)
 
 -- "taken records precede free ones"
 all-free-at : (table : List Symbol) (k : ℕ) → allFree table ≡ true → k < length table → free (getD table k vacant) ≡ true
@@ -251,3 +257,47 @@ slot-new id (x ∷ table) s a h same now = by-first (free x) (eqb (x .id) id) re
     by-first true t q r a h ih = rw (eq-eqb (s .id) id same, now)
     by-first false true q r a h ih = absurd (not-suc-le-zero a)
     by-first false false q r a h ih = rw (q, r) (ap suc (ih (omega arith) (omega arith)))
+
+-- the first free record is free
+pub free-at : (table : List Symbol) → firstFree table < length table → free (getD table (firstFree table) vacant) ≡ true
+unfolding firstFree
+free-at [] h = absurd (not-suc-le-zero h)
+free-at (x ∷ table) h = by-first (free x) refl h (free-at table)
+  where
+    by-first : (t : Bool) → free x ≡ t → cond t 0 (suc (firstFree table)) < suc (length table) →
+        (firstFree table < length table → free (getD table (firstFree table) vacant) ≡ true) →
+        free (getD (x ∷ table) (cond t 0 (suc (firstFree table))) vacant) ≡ true
+    by-first true q h ih = q
+    by-first false q h ih = ih (omega arith)
+
+-- the words of another slot
+module _ (store ws : List ℕ) (k i : ℕ) (room : k * 48 ≤ length store) (rest : drop 48 ws ≡ drop 48 (drop (k * 48) store)) where
+  front : length (take (k * 48) store) ≡ k * 48
+  front = length-take-le (k * 48) store room
+
+  pub words-before : i < k → take 48 (drop (i * 48) (take (k * 48) store ++ ws)) ≡ take 48 (drop (i * 48) store)
+  words-before h =
+      let m : k * 48 ≡ i * 48 + (48 + (k * 48 - (i * 48 + 48))) = omega arith in
+      let within : i * 48 ≤ length (take (k * 48) store) = omega (arith, front) in
+      let left : drop (i * 48) (take (k * 48) store) ≡ take (48 + (k * 48 - (i * 48 + 48))) (drop (i * 48) store) =
+      ap (λ (n : ℕ). drop (i * 48) (take n store)) m
+      ∙ ap (drop (i * 48)) (take-add (i * 48) (48 + (k * 48 - (i * 48 + 48))) store)
+      ∙ drop-at (take (i * 48) store) (take (48 + (k * 48 - (i * 48 + 48))) (drop (i * 48) store)) (i * 48) (length-take-le (i * 48) store (omega arith)) in
+      let size : 48 ≤ length (drop (i * 48) (take (k * 48) store)) = simp length-drop (omega (arith, front)) in
+      let less : 48 ≤ 48 + (k * 48 - (i * 48 + 48)) = omega arith in
+      ap (take 48) (drop-append-le (i * 48) (take (k * 48) store) ws within)
+      ∙ take-append-le 48 (drop (i * 48) (take (k * 48) store)) ws size
+      ∙ ap (take 48) left
+      ∙ take-take 48 (48 + (k * 48 - (i * 48 + 48))) (drop (i * 48) store) less
+
+  pub words-after : k < i → drop (i * 48) (take (k * 48) store ++ ws) ≡ drop (i * 48) store
+  words-after h =
+      let m : i * 48 ≡ k * 48 + (48 + (i * 48 - (k * 48 + 48))) = omega arith in
+      let n : length (take (k * 48) store) + (48 + (i * 48 - (k * 48 + 48))) ≡ i * 48 = omega (arith, front) in
+      ap (λ (j : ℕ). drop j (take (k * 48) store ++ ws)) (sym n)
+      ∙ drop-append-add (take (k * 48) store) ws (48 + (i * 48 - (k * 48 + 48)))
+      ∙ sym (drop-drop (i * 48 - (k * 48 + 48)) 48 ws)
+      ∙ ap (drop (i * 48 - (k * 48 + 48))) rest
+      ∙ drop-drop (i * 48 - (k * 48 + 48)) 48 (drop (k * 48) store)
+      ∙ drop-drop (48 + (i * 48 - (k * 48 + 48))) (k * 48) store
+      ∙ ap (λ (j : ℕ). drop j store) (sym m)
