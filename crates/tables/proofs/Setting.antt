@@ -136,7 +136,7 @@ id-new j (x ∷ table) s e h now a b = by-first (free x) refl e h a (λ f g c. i
     by-first false q f g c ih =
         rw (q, or-false-first (eqb (x .id) j) (hasId j (taken table)) c) (ih f (omega arith) (or-false-second (eqb (x .id) j) (hasId j (taken table)) c))
 
-turned-round : (a b : ℕ) → eqb a b ≡ false → eqb b a ≡ false
+pub turned-round : (a b : ℕ) → eqb a b ≡ false → eqb b a ≡ false
 turned-round a b e = ne-eqb b a (λ q. eqb-false a b e (sym q))
 
 pub ids-new : (table : List Symbol) (s : Symbol) → takenFirst table ≡ true → firstFree table < length table → free s ≡ false →
