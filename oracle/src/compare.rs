@@ -3,6 +3,7 @@
 use crate::ask::{answer, Answer, QUESTIONS, RELATIONS};
 use crate::face;
 use crate::random::Random;
+use crate::records;
 use crate::small::*;
 use crate::types::*;
 use crate::words::{BOOL, CHAR8, POINTER, UINT8, VIEW};
@@ -74,7 +75,8 @@ pub fn compare(scale: u64, seed: u64) -> (u64, u64) {
     long(&mut tallies);
     counts(&mut tallies, &mut Random::new(seed));
     random(&mut tallies, scale, &mut Random::new(seed));
-    report(&tallies.0)
+    let symbols = records::compare(scale, &mut Random::new(seed));
+    report(&tallies.0, &symbols)
 }
 
 /// Every small type and every pair of small types.
@@ -174,7 +176,7 @@ fn random(tallies: &mut Tallies, scale: u64, random: &mut Random) {
     }
 }
 
-fn report(tallies: &[Tally]) -> (u64, u64) {
+fn report(tallies: &[Tally], symbols: &[records::Row]) -> (u64, u64) {
     println!(
         "{:36}{:>10}{:>10}{:>10}{:>12}",
         "", "cases", "yes", "refusals", "differences"
@@ -183,6 +185,12 @@ fn report(tallies: &[Tally]) -> (u64, u64) {
         println!(
             "{name:36}{:>10}{:>10}{:>10}{:>12}",
             tally.cases, tally.yes, tally.refusals, tally.differences
+        );
+    }
+    for row in symbols {
+        println!(
+            "{:36}{:>10}{:>10}{:>10}{:>12}",
+            row.name, row.cases, row.changes, row.refusals, row.differences
         );
     }
     for ((name, _), tally) in QUESTIONS.iter().zip(tallies) {
@@ -199,8 +207,15 @@ fn report(tallies: &[Tally]) -> (u64, u64) {
             }
         }
     }
-    let cases: u64 = tallies.iter().map(|tally| tally.cases).sum();
-    let failed: u64 = tallies.iter().map(|tally| tally.differences).sum();
+    for row in symbols {
+        if let Some(first) = &row.first {
+            println!("\n{}, the first difference:\n{first}", row.name);
+        }
+    }
+    let cases: u64 = tallies.iter().map(|tally| tally.cases).sum::<u64>()
+        + symbols.iter().map(|row| row.cases).sum::<u64>();
+    let failed: u64 = tallies.iter().map(|tally| tally.differences).sum::<u64>()
+        + symbols.iter().map(|row| row.differences).sum::<u64>();
     println!("\nCases, each one question about given words:");
     (cases - failed, failed)
 }

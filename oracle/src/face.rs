@@ -3,9 +3,9 @@
 use crate::ask::Answer;
 
 #[repr(C)]
-struct Raw {
-    refusal: u64,
-    value: u64,
+pub struct Raw {
+    pub refusal: u64,
+    pub value: u64,
 }
 
 extern "C" {

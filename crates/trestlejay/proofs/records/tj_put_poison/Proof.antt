@@ -95,110 +95,20 @@ module _ {M : Type 1} (𝓤 : URA M) (H : Heap 𝓤) (A : Atoms 𝓤) (W : Given
     into : (ν : ℕ) (δ : GName) (l : ℕ) → ent 𝓤 (sep 𝓤 (P .pre y) (sep 𝓤 (sem 𝓤 H A (flft (ν ∷ []) fullShare)) (sem 𝓤 H A (ShrSlice (named 2) (ν ∷ []) u64 .own (empty l δ) (s l ∷ []))))) (Q .pre (z ν δ l))
     into ν δ l =
         qed W ((((‵ (flft (κs .0) (qs .0)) ⊛ (‵ (flft (κs .1 .0) (qs .1 .0)) ⊛ (‵ ftrue))) ⊛ ‵ (owns (typesAt (f.signature .params) κs) a vs)) ⊛ raw (emp 𝓤)) ∷ ‵ (flft (ν ∷ []) fullShare) ∷ ‵ (ShrSlice (named 2) (ν ∷ []) u64 .own (empty l δ) (s l ∷ [])) ∷ []) ∵
-        split ! $
-        split ! $
-        move ! (1 ∷ []) $
-        fsplit ! $
-        move ! (1 ∷ []) $
-        fsplit ! $
-        move ! (1 ∷ []) $
-        fsplit ! $
-        move ! (1 ∷ []) $
-        fsplit ! $
-        move ! (1 ∷ []) $
-        fsplit ! $
-        move ! (1 ∷ []) $
-        fsplit ! $
-        move ! (1 ∷ []) $
-        drop ! $
-        nothing ! $
-        move ! (10 ∷ 0 ∷ []) $
-        fjoin ! $
-        move ! (1 ∷ 0 ∷ []) $
-        fjoin ! $
-        move ! (1 ∷ 0 ∷ []) $
-        fjoin ! $
-        move ! (1 ∷ 0 ∷ []) $
-        fjoin ! $
-        move ! (1 ∷ 0 ∷ []) $
-        fjoin ! $
-        owned ! O.the-row (Is O.the-row) (EL.makes O.the-type O′.the-plain 𝓤 H A) op _ made $
-        fjoin ! $
-        move ! (1 ∷ 0 ∷ []) $
-        fjoin ! $
-        move ! (1 ∷ 0 ∷ []) $
-        fjoin ! $
-        move ! (1 ∷ []) $
-        split ! $
-        move ! (1 ∷ []) $
-        split ! $
-        move ! (1 ∷ []) $
-        drop ! $
-        nothing ! $
-        move ! (5 ∷ 0 ∷ []) $
-        join ! $
-        move ! (1 ∷ 0 ∷ []) $
-        join ! $
-        move ! (1 ∷ 0 ∷ []) $
-        join ! $
-        join ! $
-        keep ! (0 ∷ 1 ∷ []) $
-        done !
+        split ! $ split ! $ move ! (1 ∷ []) $ fsplit ! $ move ! (1 ∷ []) $ fsplit ! $ move ! (1 ∷ []) $ fsplit ! $ move ! (1 ∷ []) $ fsplit ! $ move ! (1 ∷ []) $ fsplit ! $
+        move ! (1 ∷ []) $ fsplit ! $ move ! (1 ∷ []) $ drop ! $ nothing ! $ move ! (10 ∷ 0 ∷ []) $ fjoin ! $ move ! (1 ∷ 0 ∷ []) $ fjoin ! $ move ! (1 ∷ 0 ∷ []) $ fjoin ! $
+        move ! (1 ∷ 0 ∷ []) $ fjoin ! $ move ! (1 ∷ 0 ∷ []) $ fjoin ! $ owned ! O.the-row (Is O.the-row) (EL.makes O.the-type O′.the-plain 𝓤 H A) op _ made $ fjoin ! $
+        move ! (1 ∷ 0 ∷ []) $ fjoin ! $ move ! (1 ∷ 0 ∷ []) $ fjoin ! $ move ! (1 ∷ []) $ split ! $ move ! (1 ∷ []) $ split ! $ move ! (1 ∷ []) $ drop ! $ nothing ! $ move ! (5 ∷ 0 ∷ []) $
+        join ! $ move ! (1 ∷ 0 ∷ []) $ join ! $ move ! (1 ∷ 0 ∷ []) $ join ! $ join ! $ keep ! (0 ∷ 1 ∷ []) $ done !
 
     out : (ν : ℕ) (δ : GName) (l : ℕ) (w : Val) (r : Answer) → ent 𝓤 (Got 𝓤 H A g.signature (g.spec 𝓤 H A at-mem run) (z ν δ l) w r) (Got 𝓤 H A f.signature (f.spec 𝓤 H A at-mem run) y w r)
     out ν δ l w r =
         qed W (((‵ (flft (κs .0) (qs .0)) ⊛ (‵ (flft (κs .1 .0) (qs .1 .0)) ⊛ (‵ (flft (ν ∷ []) fullShare) ⊛ (‵ ftrue)))) ⊛ ‵ (R.the-row .own r (w ∷ []))) ∷ some (λ (ws : Lasts g.ended (z ν δ l .0 .0) (z ν δ l .0 .3)). ‵ (lasts g.ended (z ν δ l .0 .0) (z ν δ l .0 .3) ws) ⊛ raw (g.clauses 𝓤 H A at-mem run (z ν δ l .0 .0) (z ν δ l .0 .3) .ensures tt r (atExit g.ended (z ν δ l .0 .0) (z ν δ l .0 .3) ws))) ∷ []) ∵
-        move ! (1 ∷ []) $
-        pick ! (λ ws.
-        split ! $
-        fsplit ! $
-        move ! (1 ∷ []) $
-        fsplit ! $
-        move ! (1 ∷ []) $
-        fsplit ! $
-        move ! (1 ∷ []) $
-        fsplit ! $
-        move ! (1 ∷ []) $
-        fsplit ! $
-        move ! (1 ∷ []) $
-        fsplit ! $
-        move ! (1 ∷ []) $
-        fsplit ! $
-        move ! (1 ∷ []) $
-        fsplit ! $
-        move ! (1 ∷ []) $
-        drop ! $
-        nothing ! $
-        move ! (2 ∷ 0 ∷ []) $
-        fjoin ! $
-        move ! (2 ∷ 0 ∷ []) $
-        fjoin ! $
-        move ! (2 ∷ 0 ∷ []) $
-        fjoin ! $
-        move ! (2 ∷ 0 ∷ []) $
-        fjoin ! $
-        move ! (3 ∷ 0 ∷ []) $
-        fjoin ! $
-        move ! (3 ∷ 0 ∷ []) $
-        fjoin ! $
-        move ! (4 ∷ []) $
-        split ! $
-        split ! $
-        move ! (1 ∷ []) $
-        split ! $
-        move ! (1 ∷ []) $
-        split ! $
-        move ! (1 ∷ []) $
-        drop ! $
-        nothing ! $
-        move ! (2 ∷ 0 ∷ []) $
-        join ! $
-        move ! (2 ∷ 0 ∷ []) $
-        join ! $
-        move ! (0 ∷ 2 ∷ []) $
-        join ! $
-        move ! (0 ∷ 2 ∷ 5 ∷ []) $
-        keep ! (0 ∷ 1 ∷ 2 ∷ []) $
+        move ! (1 ∷ []) $ pick ! (λ ws. split ! $ fsplit ! $ move ! (1 ∷ []) $ fsplit ! $ move ! (1 ∷ []) $ fsplit ! $ move ! (1 ∷ []) $ fsplit ! $ move ! (1 ∷ []) $ fsplit ! $
+        move ! (1 ∷ []) $ fsplit ! $ move ! (1 ∷ []) $ fsplit ! $ move ! (1 ∷ []) $ fsplit ! $ move ! (1 ∷ []) $ drop ! $ nothing ! $ move ! (2 ∷ 0 ∷ []) $ fjoin ! $ move ! (2 ∷ 0 ∷ []) $
+        fjoin ! $ move ! (2 ∷ 0 ∷ []) $ fjoin ! $ move ! (2 ∷ 0 ∷ []) $ fjoin ! $ move ! (3 ∷ 0 ∷ []) $ fjoin ! $ move ! (3 ∷ 0 ∷ []) $ fjoin ! $ move ! (4 ∷ []) $ split ! $ split ! $
+        move ! (1 ∷ []) $ split ! $ move ! (1 ∷ []) $ split ! $ move ! (1 ∷ []) $ drop ! $ nothing ! $ move ! (2 ∷ 0 ∷ []) $ join ! $ move ! (2 ∷ 0 ∷ []) $ join ! $ move ! (0 ∷ 2 ∷ []) $
+        join ! $ move ! (0 ∷ 2 ∷ 5 ∷ []) $ keep ! (0 ∷ 1 ∷ 2 ∷ []) $
         frame ! $ show ! (λ (us : Lasts f.ended κs a). sep 𝓤 (sem 𝓤 H A (lasts f.ended κs a us)) (f.clauses 𝓤 H A at-mem run κs a .ensures tt r (atExit f.ended κs a us))) (ws .0, (ws .1 .0, (ws .1 .1 .1 .0, (ws .1 .1 .1 .1 .0, (ws .1 .1 .1 .1 .1 .0, (ws .1 .1 .1 .1 .1 .1 .0, tt)))))) $
         done !)
 
@@ -206,13 +116,9 @@ module _ {M : Type 1} (𝓤 : URA M) (H : Heap 𝓤) (A : Atoms 𝓤) (W : Given
     walk =
         qed W (raw (P .pre y) ∷ []) ∵ enter ! C Λ code.function _ _ $
         alloc1 ! (λ l0. alloc1 ! (λ l1. alloc1 ! (λ l2. alloc1 ! (λ l3. alloc1 ! (λ l4. alloc1 ! (λ l5. alloc1 ! (λ l6. alloc1 ! (λ l7. alloc1 ! (λ l8. alloc1 ! (λ l9. alloc1 ! (λ l10. alloc1 ! (λ l11. alloc1 ! (λ l12. alloc1 ! (λ l13. alloc1 ! (λ l14. alloc0 ! $ params1 ! $
-        pass1 ! (init ! 26 refl (tt, (tt, (record { fits = are .0 .0 .1 .0 }, tt)))) $
-        pass1 ! (init ! 24 refl (tt, (tt, (record { fits = are .1 .0 .0 .1 .0 }, tt)))) $
-        pass1 ! (init ! 22 refl (tt, record { fits = are .1 .1 .0 .1 })) $
-        pass1 ! (init ! 20 refl (tt, tt)) $
-        pass1 ! (init ! 18 refl (tt, record { fits = are .1 .1 .1 .1 .0 .1 })) $
-        pass1 ! (init ! 16 refl (tt, record { fits = are .1 .1 .1 .1 .1 .0 .1 })) $
-        pass0 ! $
+        pass1 ! (init ! 26 refl (tt, (tt, (record { fits = are .0 .0 .1 .0 }, tt)))) $ pass1 ! (init ! 24 refl (tt, (tt, (record { fits = are .1 .0 .0 .1 .0 }, tt)))) $
+        pass1 ! (init ! 22 refl (tt, record { fits = are .1 .1 .0 .1 })) $ pass1 ! (init ! 20 refl (tt, tt)) $ pass1 ! (init ! 18 refl (tt, record { fits = are .1 .1 .1 .1 .0 .1 })) $
+        pass1 ! (init ! 16 refl (tt, record { fits = are .1 .1 .1 .1 .1 .0 .1 })) $ pass0 ! $
         assigns ! (agg ! (and-then ! (lit ! tt) (no-more !))) (from ! (stop !)) (init ! 14 refl (tt, (record { fits = ltb→lt 0 (2 ^ 64) tt }, tt))) $
         assigns ! (addr ! (from ! (fld ! refl (hop ! (look-in ! 26 (sub ! 0 refl (whole !))) (stop !))))) (from ! (stop !)) (init ! 12 refl (tt, tt)) $
         assigns ! (agg ! (and-then ! (load ! (from ! (stop !)) (look ! 12 refl)) (and-then ! (load ! (from ! (fld ! refl (stop !))) (look-in ! 26 (sub ! 1 refl (whole !)))) (no-more !)))) (from ! (stop !)) (init ! 10 refl (tt, (tt, (record { fits = are .0 .0 .1 .0 }, tt)))) $
@@ -222,49 +128,16 @@ module _ {M : Type 1} (𝓤 : URA M) (H : Heap 𝓤) (A : Atoms 𝓤) (W : Given
         assigns ! (addr ! (from ! (stop !))) (from ! (stop !)) (init ! 2 refl (tt, tt)) $
         assigns ! (agg ! (and-then ! (load ! (from ! (stop !)) (look ! 2 refl)) (and-then ! (lit ! tt) (no-more !)))) (from ! (stop !)) (init ! 0 refl (tt, (tt, (record { fits = ltb→lt 0 (2 ^ 64) tt }, tt)))) $
         -- an empty slice, lent for a lifetime ν of the call
-        lft-new ! tt (λ ν.
-        nothing ! $
-        feqI ! ℕ 0 0 refl $
-        fjoin ! $
+        lft-new ! tt (λ ν. nothing ! $ feqI ! ℕ 0 0 refl $ fjoin ! $
         use1 W (later (some (λ (δ : GName). ‵ (ShrSlice (named 2) (ν ∷ []) u64 .own (empty l7 δ) (s l7 ∷ [])) ⊛ ‵ (flent (ν ∷ []) (arr-parts (shares u64) 0 .part fullShare [] l7 0))))) (lends-shr-slice 𝓤 H A W u64 (named 2) (ν ∷ []) fullShare [] l7 0 (ltb→lt 0 (2 ^ 64) tt, ltb→lt 0 (2 ^ 63) tt)) $ await ! tt $ pick ! (λ δ.
-        split ! $
-        move ! (33 ∷ 2 ∷ 0 ∷ []) $
-        use3 W (raw (Q .pre (z ν δ l7))) (into ν δ l7) $
+        split ! $ move ! (33 ∷ 2 ∷ 0 ∷ []) $ use3 W (raw (Q .pre (z ν δ l7))) (into ν δ l7) $
         calls-at ! fm Q known (z ν δ l7) (and-then ! (load ! (from ! (stop !)) (look ! 12 refl)) (and-then ! (load ! (from ! (stop !)) (look ! 8 refl)) (and-then ! (load ! (from ! (stop !)) (look ! 6 refl)) (and-then ! (load ! (from ! (stop !)) (look ! 24 refl)) (and-then ! (load ! (from ! (stop !)) (look ! 22 refl)) (and-then ! (load ! (from ! (stop !)) (look ! 20 refl)) (and-then ! (load ! (from ! (stop !)) (look ! 18 refl)) (and-then ! (load ! (from ! (stop !)) (look ! 2 refl)) (no-more !))))))))) (λ w. answered 𝓤 H A g.signature (g.spec 𝓤 H A at-mem run) (z ν δ l7) w W ! tt (λ r is.
-        land ! (from ! (stop !)) (init ! 30 refl (LL.lawful R.the-type R′.the-laws 𝓤 H A W .typed r _ is .0)) $
-        returns ! (look ! 30 refl) $
-        forget ! 2 refl $
-        forget ! 4 refl $
-        forget ! 6 refl $
-        forget ! 8 refl $
-        forget ! 10 refl $
-        forget ! 12 refl $
-        forget ! 14 refl $
-        forget ! 16 refl $
-        forget ! 18 refl $
-        forget ! 20 refl $
-        forget ! 22 refl $
-        forget ! 24 refl $
-        forget ! 26 refl $
-        forget ! 28 refl $
-        forget ! 30 refl $
-        move ! (30 ∷ 31 ∷ []) $ free1 ! $
-        move ! (28 ∷ 29 ∷ []) $ free1 ! $
-        move ! (26 ∷ 27 ∷ []) $ free1 ! $
-        move ! (24 ∷ 25 ∷ []) $ free1 ! $
-        move ! (22 ∷ 23 ∷ []) $ free1 ! $
-        move ! (20 ∷ 21 ∷ []) $ free1 ! $
-        move ! (18 ∷ 19 ∷ []) $ free1 ! $
-        move ! (16 ∷ 17 ∷ []) $ free1 ! $
-        move ! (14 ∷ 15 ∷ []) $ free1 ! $
-        move ! (12 ∷ 13 ∷ []) $ free1 ! $
-        move ! (10 ∷ 11 ∷ []) $ free1 ! $
-        move ! (8 ∷ 9 ∷ []) $ free1 ! $
-        move ! (6 ∷ 7 ∷ []) $ free1 ! $
-        move ! (4 ∷ 5 ∷ []) $ free1 ! $
-        move ! (2 ∷ 3 ∷ []) $ free1 ! $
-        free0 ! $
-        keep ! (0 ∷ []) $
+        land ! (from ! (stop !)) (init ! 30 refl (LL.lawful R.the-type R′.the-laws 𝓤 H A W .typed r _ is .0)) $ returns ! (look ! 30 refl) $ forget ! 2 refl $ forget ! 4 refl $
+        forget ! 6 refl $ forget ! 8 refl $ forget ! 10 refl $ forget ! 12 refl $ forget ! 14 refl $ forget ! 16 refl $ forget ! 18 refl $ forget ! 20 refl $ forget ! 22 refl $
+        forget ! 24 refl $ forget ! 26 refl $ forget ! 28 refl $ forget ! 30 refl $ move ! (30 ∷ 31 ∷ []) $ free1 ! $ move ! (28 ∷ 29 ∷ []) $ free1 ! $ move ! (26 ∷ 27 ∷ []) $ free1 ! $
+        move ! (24 ∷ 25 ∷ []) $ free1 ! $ move ! (22 ∷ 23 ∷ []) $ free1 ! $ move ! (20 ∷ 21 ∷ []) $ free1 ! $ move ! (18 ∷ 19 ∷ []) $ free1 ! $ move ! (16 ∷ 17 ∷ []) $ free1 ! $
+        move ! (14 ∷ 15 ∷ []) $ free1 ! $ move ! (12 ∷ 13 ∷ []) $ free1 ! $ move ! (10 ∷ 11 ∷ []) $ free1 ! $ move ! (8 ∷ 9 ∷ []) $ free1 ! $ move ! (6 ∷ 7 ∷ []) $ free1 ! $
+        move ! (4 ∷ 5 ∷ []) $ free1 ! $ move ! (2 ∷ 3 ∷ []) $ free1 ! $ free0 ! $ keep ! (0 ∷ []) $
         by ! (via 𝓤 (Got 𝓤 H A f.signature (f.spec 𝓤 H A at-mem run) y w r) (out ν δ l7 w r) (handed-out 𝓤 H A f.signature (f.spec 𝓤 H A at-mem run) y w W r)))))))))))))))))))))
 
   meets : (𝓣 : Tables 𝓤 H) → Triple 𝓤 (𝓣 .C callee.name) Q → Meets 𝓤 H A f.signature (WpFn 𝓤 H (𝓣 .C) (𝓣 .Λ) code.function) (f.spec 𝓤 H A at-mem run)

@@ -81,81 +81,18 @@ module _ {M : Type 1} (𝓤 : URA M) (H : Heap 𝓤) (A : Atoms 𝓤) (W : Given
 
     into : ent 𝓤 (P .pre y) (Q .pre (z))
     into =
-        qed W ((raw (alive 𝓤 H A f.signature κs qs) ⊛ ‵ (owns (typesAt (f.signature .params) κs) a vs)) ∷ raw (emp 𝓤) ∷ []) ∵
-        split ! $
-        move ! (1 ∷ []) $
-        fsplit ! $
-        move ! (1 ∷ []) $
-        fsplit ! $
-        move ! (1 ∷ []) $
-        fsplit ! $
-        move ! (1 ∷ []) $
-        fsplit ! $
-        move ! (1 ∷ []) $
-        fsplit ! $
-        move ! (1 ∷ []) $
-        fsplit ! $
-        move ! (1 ∷ []) $
-        drop ! $
-        nothing ! $
-        move ! (1 ∷ 0 ∷ []) $
-        fjoin ! $
-        owned ! u64 (Is u64) (uint-makes 𝓤 H A W w64) 0 _ (refl, ltb→lt 0 (2 ^ 64) tt) $
-        fjoin ! $
-        move ! (1 ∷ 0 ∷ []) $
-        fjoin ! $
-        move ! (1 ∷ 0 ∷ []) $
-        fjoin ! $
-        move ! (1 ∷ 0 ∷ []) $
-        fjoin ! $
-        owned ! O.the-row (Is O.the-row) (EL.makes O.the-type O′.the-plain 𝓤 H A) op _ made $
-        fjoin ! $
-        move ! (1 ∷ 0 ∷ []) $
-        fjoin ! $
-        move ! (1 ∷ 0 ∷ []) $
-        fjoin ! $
-        move ! (1 ∷ 0 ∷ []) $
-        join ! $
-        keep ! (0 ∷ 1 ∷ []) $
-        done !
+        qed W ((raw (alive 𝓤 H A f.signature κs qs) ⊛ ‵ (owns (typesAt (f.signature .params) κs) a vs)) ∷ raw (emp 𝓤) ∷ []) ∵ split ! $ move ! (1 ∷ []) $ fsplit ! $ move ! (1 ∷ []) $
+        fsplit ! $ move ! (1 ∷ []) $ fsplit ! $ move ! (1 ∷ []) $ fsplit ! $ move ! (1 ∷ []) $ fsplit ! $ move ! (1 ∷ []) $ fsplit ! $ move ! (1 ∷ []) $ drop ! $ nothing ! $
+        move ! (1 ∷ 0 ∷ []) $ fjoin ! $ owned ! u64 (Is u64) (uint-makes 𝓤 H A W w64) 0 _ (refl, ltb→lt 0 (2 ^ 64) tt) $ fjoin ! $ move ! (1 ∷ 0 ∷ []) $ fjoin ! $ move ! (1 ∷ 0 ∷ []) $
+        fjoin ! $ move ! (1 ∷ 0 ∷ []) $ fjoin ! $ owned ! O.the-row (Is O.the-row) (EL.makes O.the-type O′.the-plain 𝓤 H A) op _ made $ fjoin ! $ move ! (1 ∷ 0 ∷ []) $ fjoin ! $
+        move ! (1 ∷ 0 ∷ []) $ fjoin ! $ move ! (1 ∷ 0 ∷ []) $ join ! $ keep ! (0 ∷ 1 ∷ []) $ done !
 
     out : (w : Val) (r : Answer) → ent 𝓤 (Got 𝓤 H A g.signature (g.spec 𝓤 H A at-mem run) (z) w r) (Got 𝓤 H A f.signature (f.spec 𝓤 H A at-mem run) y w r)
     out w r =
         qed W (raw (Back 𝓤 H A f.signature (y .0) w r) ∷ some (λ (ws : Lasts g.ended (z .0 .0) (z .0 .3)). ‵ (lasts g.ended (z .0 .0) (z .0 .3) ws) ⊛ raw (g.clauses 𝓤 H A at-mem run (z .0 .0) (z .0 .3) .ensures tt r (atExit g.ended (z .0 .0) (z .0 .3) ws))) ∷ []) ∵
-        move ! (1 ∷ []) $
-        pick ! (λ ws.
-        split ! $
-        fsplit ! $
-        move ! (1 ∷ []) $
-        fsplit ! $
-        move ! (1 ∷ []) $
-        fsplit ! $
-        move ! (1 ∷ []) $
-        fsplit ! $
-        move ! (1 ∷ []) $
-        fsplit ! $
-        move ! (1 ∷ []) $
-        fsplit ! $
-        move ! (1 ∷ []) $
-        fsplit ! $
-        move ! (1 ∷ []) $
-        fsplit ! $
-        move ! (1 ∷ []) $
-        drop ! $
-        nothing ! $
-        move ! (1 ∷ 0 ∷ []) $
-        fjoin ! $
-        move ! (2 ∷ 0 ∷ []) $
-        fjoin ! $
-        move ! (2 ∷ 0 ∷ []) $
-        fjoin ! $
-        move ! (2 ∷ 0 ∷ []) $
-        fjoin ! $
-        move ! (3 ∷ 0 ∷ []) $
-        fjoin ! $
-        move ! (3 ∷ 0 ∷ []) $
-        fjoin ! $
-        move ! (4 ∷ 0 ∷ 3 ∷ []) $
+        move ! (1 ∷ []) $ pick ! (λ ws. split ! $ fsplit ! $ move ! (1 ∷ []) $ fsplit ! $ move ! (1 ∷ []) $ fsplit ! $ move ! (1 ∷ []) $ fsplit ! $ move ! (1 ∷ []) $ fsplit ! $
+        move ! (1 ∷ []) $ fsplit ! $ move ! (1 ∷ []) $ fsplit ! $ move ! (1 ∷ []) $ fsplit ! $ move ! (1 ∷ []) $ drop ! $ nothing ! $ move ! (1 ∷ 0 ∷ []) $ fjoin ! $ move ! (2 ∷ 0 ∷ []) $
+        fjoin ! $ move ! (2 ∷ 0 ∷ []) $ fjoin ! $ move ! (2 ∷ 0 ∷ []) $ fjoin ! $ move ! (3 ∷ 0 ∷ []) $ fjoin ! $ move ! (3 ∷ 0 ∷ []) $ fjoin ! $ move ! (4 ∷ 0 ∷ 3 ∷ []) $
         keep ! (0 ∷ 1 ∷ 2 ∷ []) $
         frame ! $ show ! (λ (us : Lasts f.ended κs a). sep 𝓤 (sem 𝓤 H A (lasts f.ended κs a us)) (f.clauses 𝓤 H A at-mem run κs a .ensures tt r (atExit f.ended κs a us))) (ws .0, (ws .1 .0, (ws .1 .1 .1 .0, (ws .1 .1 .1 .1 .0, (ws .1 .1 .1 .1 .1 .0, (ws .1 .1 .1 .1 .1 .1 .1 .0, tt)))))) $
         done !)
@@ -164,49 +101,21 @@ module _ {M : Type 1} (𝓤 : URA M) (H : Heap 𝓤) (A : Atoms 𝓤) (W : Given
     walk =
         qed W (raw (P .pre y) ∷ []) ∵ enter ! C Λ code.function _ _ $
         alloc1 ! (λ l0. alloc1 ! (λ l1. alloc1 ! (λ l2. alloc1 ! (λ l3. alloc1 ! (λ l4. alloc1 ! (λ l5. alloc1 ! (λ l6. alloc1 ! (λ l7. alloc1 ! (λ l8. alloc1 ! (λ l9. alloc1 ! (λ l10. alloc1 ! (λ l11. alloc0 ! $ params1 ! $
-        pass1 ! (init ! 20 refl (tt, (tt, (record { fits = are .0 .0 .1 .0 }, tt)))) $
-        pass1 ! (init ! 18 refl (tt, (tt, (record { fits = are .1 .0 .0 .1 .0 }, tt)))) $
-        pass1 ! (init ! 16 refl (tt, record { fits = are .1 .1 .0 .1 })) $
-        pass1 ! (init ! 14 refl (tt, tt)) $
-        pass1 ! (init ! 12 refl (tt, record { fits = are .1 .1 .1 .1 .0 .1 })) $
-        pass1 ! (init ! 10 refl (tt, (tt, (record { fits = are .1 .1 .1 .1 .1 .0 .0 .1 .0 }, tt)))) $
-        pass0 ! $
+        pass1 ! (init ! 20 refl (tt, (tt, (record { fits = are .0 .0 .1 .0 }, tt)))) $ pass1 ! (init ! 18 refl (tt, (tt, (record { fits = are .1 .0 .0 .1 .0 }, tt)))) $
+        pass1 ! (init ! 16 refl (tt, record { fits = are .1 .1 .0 .1 })) $ pass1 ! (init ! 14 refl (tt, tt)) $ pass1 ! (init ! 12 refl (tt, record { fits = are .1 .1 .1 .1 .0 .1 })) $
+        pass1 ! (init ! 10 refl (tt, (tt, (record { fits = are .1 .1 .1 .1 .1 .0 .0 .1 .0 }, tt)))) $ pass0 ! $
         assigns ! (addr ! (from ! (fld ! refl (hop ! (look-in ! 20 (sub ! 0 refl (whole !))) (stop !))))) (from ! (stop !)) (init ! 8 refl (tt, tt)) $
         assigns ! (agg ! (and-then ! (load ! (from ! (stop !)) (look ! 8 refl)) (and-then ! (load ! (from ! (fld ! refl (stop !))) (look-in ! 20 (sub ! 1 refl (whole !)))) (no-more !)))) (from ! (stop !)) (init ! 6 refl (tt, (tt, (record { fits = are .0 .0 .1 .0 }, tt)))) $
         assigns ! (addr ! (from ! (fld ! refl (hop ! (look-in ! 18 (sub ! 0 refl (whole !))) (stop !))))) (from ! (stop !)) (init ! 4 refl (tt, tt)) $
         assigns ! (agg ! (and-then ! (load ! (from ! (stop !)) (look ! 4 refl)) (and-then ! (load ! (from ! (fld ! refl (stop !))) (look-in ! 18 (sub ! 1 refl (whole !)))) (no-more !)))) (from ! (stop !)) (init ! 2 refl (tt, (tt, (record { fits = are .1 .0 .0 .1 .0 }, tt)))) $
         assigns ! (agg ! (and-then ! (lit ! tt) (no-more !))) (from ! (stop !)) (init ! 0 refl (EL.lawful O.the-type O′.the-laws 𝓤 H A W tt .typed op (EL.vals O.the-type O′.the-laws op) made .0)) $
-        move ! (24 ∷ []) $
-        use1 W (raw (Q .pre (z))) (into) $
+        move ! (24 ∷ []) $ use1 W (raw (Q .pre (z))) (into) $
         calls-at ! fm Q known (z) (and-then ! (load ! (from ! (stop !)) (look ! 7 refl)) (and-then ! (load ! (from ! (stop !)) (look ! 3 refl)) (and-then ! (load ! (from ! (stop !)) (look ! 1 refl)) (and-then ! (load ! (from ! (stop !)) (look ! 17 refl)) (and-then ! (load ! (from ! (stop !)) (look ! 15 refl)) (and-then ! (load ! (from ! (stop !)) (look ! 13 refl)) (and-then ! (lit ! tt) (and-then ! (load ! (from ! (stop !)) (look ! 11 refl)) (no-more !))))))))) (λ w. answered 𝓤 H A g.signature (g.spec 𝓤 H A at-mem run) (z) w W ! tt (λ r is.
-        land ! (from ! (stop !)) (init ! 23 refl (LL.lawful R.the-type R′.the-laws 𝓤 H A W .typed r _ is .0)) $
-        returns ! (look ! 23 refl) $
-        forget ! 1 refl $
-        forget ! 3 refl $
-        forget ! 5 refl $
-        forget ! 7 refl $
-        forget ! 9 refl $
-        forget ! 11 refl $
-        forget ! 13 refl $
-        forget ! 15 refl $
-        forget ! 17 refl $
-        forget ! 19 refl $
-        forget ! 21 refl $
-        forget ! 23 refl $
-        move ! (23 ∷ 24 ∷ []) $ free1 ! $
-        move ! (21 ∷ 22 ∷ []) $ free1 ! $
-        move ! (19 ∷ 20 ∷ []) $ free1 ! $
-        move ! (17 ∷ 18 ∷ []) $ free1 ! $
-        move ! (15 ∷ 16 ∷ []) $ free1 ! $
-        move ! (13 ∷ 14 ∷ []) $ free1 ! $
-        move ! (11 ∷ 12 ∷ []) $ free1 ! $
-        move ! (9 ∷ 10 ∷ []) $ free1 ! $
-        move ! (7 ∷ 8 ∷ []) $ free1 ! $
-        move ! (5 ∷ 6 ∷ []) $ free1 ! $
-        move ! (3 ∷ 4 ∷ []) $ free1 ! $
-        move ! (1 ∷ 2 ∷ []) $ free1 ! $
-        free0 ! $
-        keep ! (0 ∷ []) $
+        land ! (from ! (stop !)) (init ! 23 refl (LL.lawful R.the-type R′.the-laws 𝓤 H A W .typed r _ is .0)) $ returns ! (look ! 23 refl) $ forget ! 1 refl $ forget ! 3 refl $
+        forget ! 5 refl $ forget ! 7 refl $ forget ! 9 refl $ forget ! 11 refl $ forget ! 13 refl $ forget ! 15 refl $ forget ! 17 refl $ forget ! 19 refl $ forget ! 21 refl $
+        forget ! 23 refl $ move ! (23 ∷ 24 ∷ []) $ free1 ! $ move ! (21 ∷ 22 ∷ []) $ free1 ! $ move ! (19 ∷ 20 ∷ []) $ free1 ! $ move ! (17 ∷ 18 ∷ []) $ free1 ! $
+        move ! (15 ∷ 16 ∷ []) $ free1 ! $ move ! (13 ∷ 14 ∷ []) $ free1 ! $ move ! (11 ∷ 12 ∷ []) $ free1 ! $ move ! (9 ∷ 10 ∷ []) $ free1 ! $ move ! (7 ∷ 8 ∷ []) $ free1 ! $
+        move ! (5 ∷ 6 ∷ []) $ free1 ! $ move ! (3 ∷ 4 ∷ []) $ free1 ! $ move ! (1 ∷ 2 ∷ []) $ free1 ! $ free0 ! $ keep ! (0 ∷ []) $
         by ! (via 𝓤 (Got 𝓤 H A f.signature (f.spec 𝓤 H A at-mem run) y w r) (out w r) (handed-out 𝓤 H A f.signature (f.spec 𝓤 H A at-mem run) y w W r))))))))))))))))
 
   meets : (𝓣 : Tables 𝓤 H) → Triple 𝓤 (𝓣 .C callee.name) Q → Meets 𝓤 H A f.signature (WpFn 𝓤 H (𝓣 .C) (𝓣 .Λ) code.function) (f.spec 𝓤 H A at-mem run)
