@@ -27,7 +27,7 @@ use Rattle.answers.specs.Flat.{accepted, notAccepted}
 use Rattle.updates.proofs.Cases.{by-lines}
 use Rattle.updates.proofs.Theorems.{poison-wins as update-poison}
 use Rattle.symbols.specs.Changes.{offeredCheck, placeOf, unless, wayOf, typed, Deed, deed, overwrites, inserts, Outcome, atSlot, outcomeBy, outcome}
-use Rattle.symbols.specs.Gets.{markFor, got, storedType}
+use Rattle.symbols.specs.Gets.{markFor, got, storedType, typeIn, typeOf}
 use Rattle.symbols.specs.declared.get.Got.{Got}
 use Rattle.symbols.specs.declared.get.Got.the-variants as got′
 use Rattle.symbols.specs.declared.ways.Operation.{Operation}
@@ -347,6 +347,13 @@ module _ (op : Operation) (id : ℕ) (authority : Bool) (place mark : ℕ) (offe
   pub get-finds-what-was-put : Offers op → after .answer .refusal ≡ 0 → (after .answer .value ≡ 0 → ⊥) → Holds after
   unfolding outcome
   get-finds-what-was-put t r v = way-finds (wayOf op id offered table store) refl t r v
+
+  pub get-type-of-what-was-put : Offers op → after .answer .refusal ≡ 0 → (after .answer .value ≡ 0 → ⊥) →
+      typeOf id (after .table) (after .store) ≡ offered
+  unfolding typeOf
+  get-type-of-what-was-put t r v =
+      let h = get-finds-what-was-put t r v in
+      ap (λ (g : Got). typeIn g (after .table) (after .store)) (h .1 .0 true) ∙ h .1 .1
 
 -- Poison wins until a forward declaration: a put of a type under a poisoned name is accepted and changes nothing.
 module _ (id : ℕ) (authority : Bool) (place mark : ℕ) (offered : List ℕ) (table : List Symbol) (store : List ℕ) where
