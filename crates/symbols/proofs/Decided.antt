@@ -10,7 +10,7 @@ use lib.ListN.{length, take, drop, getD, set, length-drop, drop-of-length-le}
 use lib.Seq.{take-all}
 use mir.Syntax.{w64}
 use mir.Val.{Fits}
-use borrow.Author.Tests.{lt-ltb, le-ltb, ltb-true, not-true, not-false}
+use borrow.Author.Tests.{lt-ltb, le-ltb, ltb-true, ltb-false, not-true, not-false}
 use Rattle.layers.specs.Answer as paper
 use Rattle.layers.specs.Answer.{ofChecked, given, nothing, refused}
 use Rattle.layers.specs.declared.answers.Checked.{Checked}
@@ -29,6 +29,11 @@ use Rattle.symbols.specs.declared.ways.Operation.{Operation}
 use Rattle.symbols.specs.declared.ways.Way.{Way}
 use Rattle.symbols.specs.declared.ways.Way.the-variants as way
 use Rattle.symbols.specs.declared.change.Change.{Change}
+
+abbrev pub notRefused : paper.Answer ℕ → Bool
+notRefused (given n) = true
+notRefused nothing = true
+notRefused (refused n p) = false
 
 -- the record's place
 module _ (ws w : List ℕ) (n id : ℕ) (o : Bool) (e : o ≡ inOrder (readFrom ws 0 n) w) where
@@ -180,6 +185,24 @@ module _ (op : Operation) (id : ℕ) (offered : List ℕ) (table : List Symbol) 
           order = ordered table store (free-by .0);
           below = subst (λ (j : ℕ). j < length table) (sym new-is) (ltb-true (firstFree table) (length table) (free-by .2));
         }
+
+-- the offered type was not refused; and a record is inserted where the id is not there
+not-refused : (a : paper.Answer ℕ) (w : Way) (f : Way → Bool) → ((n p : ℕ) → f (way.Refused n p) ≡ false) → f (unless a w) ≡ true → notRefused a ≡ true
+not-refused (refused n p) w f h e = absurd (false≢true (sym (h n p) ∙ e))
+not-refused (given n) w f h e = refl
+not-refused nothing w f h e = refl
+
+module _ (op : Operation) (id : ℕ) (offered : List ℕ) (table : List Symbol) (store : List ℕ) (k : ℕ) where
+  pub found-checked : wayOf op id offered table store ≡ way.Found k → notRefused (offeredCheck op offered) ≡ true
+  unfolding wayOf
+  found-checked e = not-refused (offeredCheck op offered) (placeOf id table store) isFound (λ n p. refl) (ap isFound e)
+
+  pub new-checked : wayOf op id offered table store ≡ way.Free k → notRefused (offeredCheck op offered) ≡ true
+  unfolding wayOf
+  new-checked e = not-refused (offeredCheck op offered) (placeOf id table store) isFree (λ n p. refl) (ap isFree e)
+
+  pub new-absent : wayOf op id offered table store ≡ way.Free k → length table ≤ slotFor id table
+  new-absent e = ltb-false (slotFor id table) (length table) (free-by op id offered table store k e .1)
 
 -- as the core meets it: a table that is read out of columns
 module _ (op : Operation) (id : ℕ) (authority : Bool) (place mark : ℕ) (offered flat : List ℕ) (n : ℕ) (store : List ℕ) (w : Way)

@@ -2,4 +2,6 @@
 pub mod Decided
 pub mod Whole
 pub mod Found
+pub mod Deeds
+pub mod Theorems
 pub mod Single

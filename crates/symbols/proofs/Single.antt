@@ -18,8 +18,8 @@ use Rattle.tables.proofs.Single.{Walked}
 use Rattle.symbols.proofs.get.stored_type.Kinds as stored-type-kinds
 use Rattle.symbols.proofs.get.stored_type.Reads as stored-type
 use Rattle.symbols.proofs.change.change_symbol as change-symbol
-use Rattle.symbols.proofs.change.poison_symbol as poison-symbol
 use Rattle.symbols.proofs.get.get_symbol as get-symbol
+use Rattle.symbols.proofs.get.get_type as get-type
 use Rattle.symbols.proofs.nothing.put_nothing as put-nothing
 
 -- of a part that is handed back, the words
@@ -34,16 +34,14 @@ module _ {M : Type 1} (𝓤 : URA M) (H : Heap 𝓤) (A : Atoms 𝓤) (mem : Mem
   change-symbol-single κs a =
       (_, (λ x s. refl, λ x y s t p q. (p .0 ∙ sym (q .0), p .1 ∙ sym (q .1), p .2 ∙ sym (q .2))))
 
-  pub poison-symbol-single : (κs : Lfts 2) (a : Args poison-symbol.signature κs) →
-      Walked 𝓤 (poison-symbol.clauses 𝓤 H A mem run κs a .ensures tt)
-      (λ x s y t. (x ≡ y) × (now (s .0) ≡ now (t .0)) × (now (s .1 .0) ≡ now (t .1 .0)))
-  poison-symbol-single κs a =
-      (_, (λ x s. refl, λ x y s t p q. (p .0 ∙ sym (q .0), p .1 ∙ sym (q .1), p .2 ∙ sym (q .2))))
-
   pub get-symbol-single : (κs : Lfts 3) (a : Args get-symbol.signature κs) →
       Walked 𝓤 (get-symbol.clauses 𝓤 H A mem run κs a .ensures tt)
       (λ x s y t. (x ≡ y) × (now (s .1 .1 .1 .1 .0) ≡ now (t .1 .1 .1 .1 .0)))
   get-symbol-single κs a = (_, (λ x s. refl, λ x y s t p q. (p .0 ∙ sym (q .0), p .1 ∙ sym (q .1))))
+
+  pub get-type-single : (κs : Lfts 2) (a : Args get-type.signature κs) →
+      Walked 𝓤 (get-type.clauses 𝓤 H A mem run κs a .ensures tt) (λ x s y t. now x ≡ now y)
+  get-type-single κs a = (_, (λ x s. refl, λ x y s t p q. p ∙ sym q))
 
   pub put-nothing-single : (κs : Lfts 2) (a : Args put-nothing.signature κs) →
       Walked 𝓤 (put-nothing.clauses 𝓤 H A mem run κs a .ensures tt) (λ x s y t. x ≡ y)

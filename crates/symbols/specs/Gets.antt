@@ -1,5 +1,5 @@
 -- Get, and put with nothing: what a table has under a name.
-use mathlib.Core.Bool.{Bool, cond}
+use mathlib.Core.Bool.{Bool, true, cond}
 use mathlib.Core.List.{List, []}
 use Prim.Native.Nat.{ℕ, _*_, _/_}
 use lib.Dec.{eqb, leb, ltb}
@@ -47,3 +47,13 @@ storedType store k n =
 -- "Put with nothing: accepted, unchanged."
 unfoldable pub nothingPut : List Symbol → List ℕ → Answer
 nothingPut table store = cond (inOrder table store) (accepted 0) (notAccepted 12 0)
+
+-- "symbol get return the part of the lent words that holds the .. stored type": no words where there is no type.
+abbrev pub typeIn : Got → List Symbol → List ℕ → List ℕ
+typeIn got′.Absent table store = []
+typeIn (got′.Typed k) table store = storedType store k (getD table k vacant .layers)
+typeIn (got′.Poisoned m) table store = []
+typeIn (got′.Refused n p) table store = []
+
+unfoldable pub typeOf : ℕ → List Symbol → List ℕ → List ℕ
+typeOf id table store = typeIn (got id true table store) table store

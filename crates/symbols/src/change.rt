@@ -9,7 +9,6 @@ use tables::Symbol;
 use tables::gather;
 use tables::row;
 ghost use mathlib.Core.Path.{_≡_};
-ghost use mathlib.Core.List.{[]};
 ghost use Rattle.tables.specs.Rows.{readFrom};
 ghost use Rattle.symbols.specs.Changes as rules;
 
@@ -98,7 +97,8 @@ pub(crate) fn choose(
     }
 }
 
-// Changes a lent table and its store.
+// Changes a lent table and its store. A type has no mark and poison no offered words: the one that is not asked for is
+// not looked at.
 pub fn change_symbol(
     table: &mut [Symbol],
     store: &mut [u64],
@@ -124,57 +124,6 @@ pub fn change_symbol(
         place,
         mark,
         offered,
-    );
-    let at = c.slot;
-    if table.len() <= at {
-        return c.answer;
-    }
-    table[at] = c.symbol;
-    c.answer
-}
-
-// The same where no type is offered: poison has none.
-fn choose_bare(
-    flat: [u64; 768],
-    n: usize,
-    store: &mut [u64],
-    operation: Operation,
-    id: u32,
-    authority: bool,
-    place: u64,
-    mark: u64,
-) -> Change
-    ensures { λ r. ⌜ (r ≡ rules.changeOf operation id authority place mark [] (readFrom flat 0 n) (now (store .entry)))
-        × (now (store .exit) ≡ rules.storeOf operation id authority place mark [] (readFrom flat 0 n) (now (store .entry))) ⌝ }
-{
-    let none = [0u64; 0];
-    choose(flat, n, store, operation, id, authority, place, mark, &none)
-}
-
-// Changes a lent table where no type is offered.
-pub fn poison_symbol(
-    table: &mut [Symbol],
-    store: &mut [u64],
-    operation: Operation,
-    id: u32,
-    authority: bool,
-    place: u64,
-    mark: u64,
-) -> Answer
-    ensures { λ r. ⌜ (r ≡ rules.outcome operation id authority place mark [] (now (table .entry)) (now (store .entry)) .answer)
-        × (now (table .exit) ≡ rules.outcome operation id authority place mark [] (now (table .entry)) (now (store .entry)) .table)
-        × (now (store .exit) ≡ rules.outcome operation id authority place mark [] (now (table .entry)) (now (store .entry)) .store) ⌝ }
-{
-    let flat = gather(table);
-    let c = choose_bare(
-        flat,
-        table.len(),
-        store,
-        operation,
-        id,
-        authority,
-        place,
-        mark,
     );
     let at = c.slot;
     if table.len() <= at {

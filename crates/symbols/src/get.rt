@@ -108,3 +108,28 @@ pub fn stored_type(store: &[u64], slot: usize, layers: u64) -> &[u64]
     let end = from + (layers as usize) * 3;
     &store[from..end]
 }
+
+fn type_among(flat: [u64; 768], n: usize, store: &[u64], id: u32) -> &[u64]
+    ensures { λ r. ⌜ now r ≡ rules.typeOf id (readFrom flat 0 n) (now (store .entry)) ⌝ }
+{
+    match look(&flat, n, store, id, true) {
+        Got::Absent => &store[..0],
+        Got::Typed(at) => {
+            let s = row(&flat, at, id);
+            stored_type(store, at, s.layers)
+        }
+        Got::Poisoned(_) => &store[..0],
+        Got::Refused {
+            number: _,
+            place: _,
+        } => &store[..0],
+    }
+}
+
+// The type that a lent table has under a name, as the part of the store that holds it.
+pub fn get_type<'a>(table: &[Symbol], store: &'a [u64], id: u32) -> &'a [u64]
+    ensures { λ r. ⌜ now r ≡ rules.typeOf id (now (table .entry)) (now (store .entry)) ⌝ }
+{
+    let flat = gather(table);
+    type_among(flat, table.len(), store, id)
+}

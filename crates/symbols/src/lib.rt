@@ -7,6 +7,7 @@ mod ways;
 
 pub use change::change_symbol;
 pub use get::get_symbol;
+pub use get::get_type;
 pub use get::stored_type;
 pub use nothing::put_nothing;
 pub use ways::Operation;
