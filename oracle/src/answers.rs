@@ -1,6 +1,6 @@
 //! The fixed list of the original's answers, for replay without Rust. README.md has the format.
 
-use crate::ask::{answer, Answer, QUESTIONS, RELATIONS};
+use crate::ask::{answer, Answer, FIXING, QUESTIONS, RELATIONS};
 use crate::random::Random;
 use crate::types::*;
 use std::collections::HashMap;
@@ -41,6 +41,16 @@ pub fn answers(count: usize, seed: u64) -> String {
 /// Types are kept short, so that the list is.
 fn input(question: usize, random: &mut Random) -> (Vec<u64>, Vec<u64>) {
     let most = if random.once_in(8) { 16 } else { 4 };
+    if question == FIXING {
+        let t = extern_type(random, most);
+        let t = if random.once_in(6) {
+            damaged(random, &t)
+        } else {
+            words(&t)
+        };
+        let beside = flags(random, t.len());
+        return (t, beside);
+    }
     let (a, b) = pair(random, most);
     let a = match random.once_in(6) {
         true => damaged(random, &a),

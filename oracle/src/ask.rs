@@ -1,9 +1,10 @@
-//! The questions of the header's sections Types and Relations, in its order, each answered by the
-//! original.
+//! The questions of the header's sections Types, Relations and Extern fixing, in its order, each
+//! answered by the original.
 
 use crate::prelude::ValueType;
+use crate::typer::ask::fix;
 use crate::value_type::ask;
-use crate::words::{check, decode, encode, stored_size, Layer};
+use crate::words::{check, decode, encode, stored_size, Layer, Refusal};
 
 #[derive(Debug, Clone, PartialEq)]
 pub struct Answer {
@@ -23,11 +24,13 @@ pub enum Question {
     /// Written as low and high half.
     Halves(fn(&ValueType) -> u128),
     Relation(fn(&ValueType, &ValueType) -> bool),
+    /// The type made is written from the output's first word on.
+    Fix(fn(&ValueType, bool, u64) -> Result<ValueType, Refusal>),
 }
 
-use Question::{Halves, Inner, Number, Relation, Role, Size};
+use Question::{Fix, Halves, Inner, Number, Relation, Role, Size};
 
-pub const QUESTIONS: [(&str, Question); 32] = [
+pub const QUESTIONS: [(&str, Question); 33] = [
     ("check", Number(|t| encode(t).len() as u64 / 3)),
     ("is_wellformed", Role(|t| t.is_wellformed())),
     ("is_void", Role(|t| t.is_void())),
@@ -84,12 +87,16 @@ pub const QUESTIONS: [(&str, Question); 32] = [
         "can_subautoderef_into",
         Relation(ask::can_subautoderef_into),
     ),
+    ("fix_type_for_flags", Fix(fix)),
 ];
 
-/// Those before are asked of one type, the rest of two.
+/// Those before are asked of one type, those from here on of two.
 pub const RELATIONS: usize = 23;
 
-/// The answer to a question about the words a and, for a relation, b.
+/// Asked of a type and three numbers: 1 where it is extern, the context, the output's words.
+pub const FIXING: usize = 32;
+
+/// The answer to a question about the words a and, for a relation, b; for fixing, b is the numbers.
 pub fn answer(question: usize, a: &[u64], b: &[u64]) -> Answer {
     let refused = |(refusal, value)| Answer {
         refusal,
@@ -119,6 +126,13 @@ pub fn answer(question: usize, a: &[u64], b: &[u64]) -> Answer {
         }
         Relation(ask) => match check(b) {
             Ok(layers) => (ask(&left, &decode(&layers)) as u64, Vec::new()),
+            Err(refusal) => return refused(refusal),
+        },
+        // The original knows neither 15 nor 14.
+        Fix(ask) => match ask(&left, b[0] == 1, b[1]).map(|made| encode(&made)) {
+            Ok(made) if made.len() > 48 => return refused((15, 0)),
+            Ok(made) if made.len() as u64 > b[2] => return refused((14, 0)),
+            Ok(made) => (made.len() as u64, made),
             Err(refusal) => return refused(refusal),
         },
     };

@@ -1,6 +1,6 @@
 //! The lines of the program `cases`, as the original answers them: the same words in the same order.
 
-use crate::ask::{answer, Answer, Question, QUESTIONS, RELATIONS};
+use crate::ask::{answer, Answer, Question, FIXING, QUESTIONS, RELATIONS};
 use std::fmt::Write;
 
 const HEADING: &str = "words: layers wellformed void integral signed bitfield slice_pointer \
@@ -9,6 +9,8 @@ const HEADING: &str = "words: layers wellformed void integral signed bitfield sl
 
 const PAIRS: &str = "left right: identical equals like declared concretization \
     | coerces address autoderef subautoderef\n";
+
+const FIXES: &str = "type external context: fixed | buffer | in eight words\n";
 
 /// The columns, by the questions' numbers, and where a bar parts them.
 const COLUMNS: [usize; 23] = [
@@ -24,6 +26,8 @@ pub fn cases() -> String {
     one_type(&mut lines);
     lines.push_str(PAIRS);
     two_types(&mut lines);
+    lines.push_str(FIXES);
+    fixed(&mut lines);
     lines
 }
 
@@ -112,7 +116,7 @@ fn two_types(lines: &mut String) {
     for (i, a) in TYPES.iter().enumerate() {
         for (j, b) in TYPES.iter().enumerate() {
             write!(lines, "{i} {j}:").unwrap();
-            for question in RELATIONS..QUESTIONS.len() {
+            for question in RELATIONS..FIXING {
                 if question == RELATIONS + 5 {
                     lines.push_str(" |");
                 }
@@ -122,6 +126,39 @@ fn two_types(lines: &mut String) {
         }
     }
 }
+
+/// What stands in a buffer before.
+const BEFORE: u64 = 7;
+
+fn fixed(lines: &mut String) {
+    for (i, t) in TYPES.iter().chain(&ARRAYLIKES).enumerate() {
+        for (external, context) in (0..2).flat_map(|e| (0..5).map(move |c| (e, c))) {
+            let given = answer(FIXING, t, &[external, context, 12]);
+            let short = answer(FIXING, t, &[external, context, 8]);
+            let mut buffer = given.written.clone();
+            buffer.resize(12, BEFORE);
+            let buffer: Vec<String> = buffer.iter().map(u64::to_string).collect();
+            let (given, short) = (shown(FIXING, &given), shown(FIXING, &short));
+            writeln!(
+                lines,
+                "{i} {external} {context}: {given} | {} | {short}",
+                buffer.join(" ")
+            )
+            .unwrap();
+        }
+    }
+}
+
+const ARRAYLIKES: [&[u64]; 8] = [
+    &[19, 0, 0, 13, 0, 0],
+    &[19, 0, 0, 0, 0, 0],
+    &[19, 0, 0, 19, 0, 0, 1, 0, 0],
+    &[19, 0, 0, 24, 0, 0, 1, 0, 0],
+    &[19, 0, 0, 16, 0, 0, 1, 0, 0],
+    &[19, 0, 0, 18, 0, 0, 1, 0, 0],
+    &[23, 0, 0, 19, 0, 0, 13, 0, 0],
+    &[24, 0, 0, 24, 0, 0, 1, 0, 0],
+];
 
 const TYPES: [&[u64]; 24] = [
     &[0, 0, 0],

@@ -1,11 +1,12 @@
 //! The differential runs: the proved library against the original.
 
-use crate::ask::{answer, Answer, QUESTIONS, RELATIONS};
+use crate::ask::{answer, Answer, FIXING, QUESTIONS, RELATIONS};
 use crate::face;
 use crate::random::Random;
+use crate::records;
 use crate::small::*;
 use crate::types::*;
-use crate::words::{BOOL, CHAR8, POINTER, UINT8, VIEW};
+use crate::words::{ARRAYLIKE, BOOL, CHAR8, POINTER, UINT8, VIEW};
 
 #[derive(Default)]
 struct Tally {
@@ -61,8 +62,19 @@ impl Tallies {
     }
 
     fn ask_two(&mut self, a: &[u64], b: &[u64]) {
-        for question in RELATIONS..QUESTIONS.len() {
+        for question in RELATIONS..FIXING {
             self.ask(question, a, b);
+        }
+    }
+
+    /// Extern and not, in every context and in two that are none, with outputs of these lengths.
+    fn ask_fixed(&mut self, t: &[u64], rooms: &[u64]) {
+        for external in [0, 1] {
+            for context in [0, 1, 2, 3, 4, u64::MAX] {
+                for room in rooms {
+                    self.ask(FIXING, t, &[external, context, *room]);
+                }
+            }
         }
     }
 }
@@ -74,7 +86,10 @@ pub fn compare(scale: u64, seed: u64) -> (u64, u64) {
     long(&mut tallies);
     counts(&mut tallies, &mut Random::new(seed));
     random(&mut tallies, scale, &mut Random::new(seed));
-    report(&tallies.0)
+    fixing(&mut tallies);
+    random_fixing(&mut tallies, scale, &mut Random::new(seed));
+    let symbols = records::compare(scale, &mut Random::new(seed));
+    report(&tallies.0, &symbols)
 }
 
 /// Every small type and every pair of small types.
@@ -174,7 +189,51 @@ fn random(tallies: &mut Tallies, scale: u64, random: &mut Random) {
     }
 }
 
-fn report(tallies: &[Tally]) -> (u64, u64) {
+/// Every type of one to three layers with outputs of every length from 0 to 51 words; then bad runs,
+/// every plain chain up to 16 layers, also inside an Arraylike, and every count of words.
+fn fixing(tallies: &mut Tallies) {
+    let every: Vec<u64> = (0..=51).collect();
+    for t in types_to_three() {
+        tallies.ask_fixed(&t, &every);
+    }
+    for t in small_types(&[0, 1, u32::MAX as u64], &[0, 1, 3, u64::MAX]) {
+        tallies.ask_fixed(&t, &[2, 3, 5, 6, 9, 51]);
+    }
+    for run in runs_of_three() {
+        tallies.ask_fixed(&run, &[8, 51]);
+    }
+    let mut long = [turned_chains(), spoiled_chains(), chains([BOOL, 0, 0])].concat();
+    let inside = long
+        .iter()
+        .map(|chain| [&[ARRAYLIKE, 0, 0], &chain[..]].concat());
+    long.extend(inside.collect::<Vec<_>>());
+    for chain in long {
+        let n = chain.len() as u64;
+        tallies.ask_fixed(&chain, &[0, n - 3, n - 1, n, n + 2, n + 3, 51]);
+    }
+    for count in 0..=60 {
+        let chain: Vec<u64> = [POINTER, 0, 0].repeat(20)[..count].to_vec();
+        for words in [chain, vec![0; count], vec![u64::MAX; count]] {
+            tallies.ask_fixed(&words, &[0, 48, 51]);
+        }
+    }
+}
+
+fn random_fixing(tallies: &mut Tallies, scale: u64, random: &mut Random) {
+    for _ in 0..scale * 200_000 {
+        let t = match random.once_in(2) {
+            true => good_type(random, 16),
+            false => extern_type(random, 16),
+        };
+        let t = match random.once_in(8) {
+            true => damaged(random, &t),
+            false => words(&t),
+        };
+        tallies.ask(FIXING, &t, &flags(random, t.len()));
+    }
+}
+
+fn report(tallies: &[Tally], symbols: &[records::Row]) -> (u64, u64) {
     println!(
         "{:36}{:>10}{:>10}{:>10}{:>12}",
         "", "cases", "yes", "refusals", "differences"
@@ -185,12 +244,23 @@ fn report(tallies: &[Tally]) -> (u64, u64) {
             tally.cases, tally.yes, tally.refusals, tally.differences
         );
     }
+    for row in symbols {
+        println!(
+            "{:36}{:>10}{:>10}{:>10}{:>12}",
+            row.name, row.cases, row.changes, row.refusals, row.differences
+        );
+    }
     for ((name, _), tally) in QUESTIONS.iter().zip(tallies) {
         if let Some(d) = &tally.smallest {
             println!("\n{name}, the smallest difference:");
             println!("  left      {:?}", d.a);
             if !d.b.is_empty() {
-                println!("  right     {:?}", d.b);
+                let name = if *name == "fix_type_for_flags" {
+                    "flags"
+                } else {
+                    "right"
+                };
+                println!("  {name:10}{:?}", d.b);
             }
             println!("  the Rust  {:?}", d.expected);
             match &d.found {
@@ -199,8 +269,15 @@ fn report(tallies: &[Tally]) -> (u64, u64) {
             }
         }
     }
-    let cases: u64 = tallies.iter().map(|tally| tally.cases).sum();
-    let failed: u64 = tallies.iter().map(|tally| tally.differences).sum();
+    for row in symbols {
+        if let Some(first) = &row.first {
+            println!("\n{}, the first difference:\n{first}", row.name);
+        }
+    }
+    let cases: u64 = tallies.iter().map(|tally| tally.cases).sum::<u64>()
+        + symbols.iter().map(|row| row.cases).sum::<u64>();
+    let failed: u64 = tallies.iter().map(|tally| tally.differences).sum::<u64>()
+        + symbols.iter().map(|row| row.differences).sum::<u64>();
     println!("\nCases, each one question about given words:");
     (cases - failed, failed)
 }

@@ -1,11 +1,12 @@
-//! The proved library's C face: include/trestlejay.h, sections Types and Relations, in its order.
+//! The proved library's C face: include/trestlejay.h, sections Types, Relations and
+//! Extern fixing, in its order.
 
-use crate::ask::Answer;
+use crate::ask::{Answer, FIXING};
 
 #[repr(C)]
-struct Raw {
-    refusal: u64,
-    value: u64,
+pub struct Raw {
+    pub refusal: u64,
+    pub value: u64,
 }
 
 extern "C" {
@@ -43,6 +44,15 @@ extern "C" {
     fn tj_can_coerce_address_into(a: *const u64, na: usize, b: *const u64, nb: usize) -> Raw;
     fn tj_can_autoderef_into(a: *const u64, na: usize, b: *const u64, nb: usize) -> Raw;
     fn tj_can_subautoderef_into(a: *const u64, na: usize, b: *const u64, nb: usize) -> Raw;
+
+    fn tj_fix_type_for_flags(
+        t: *const u64,
+        n: usize,
+        external: bool,
+        context: u64,
+        out: *mut u64,
+        nout: usize,
+    ) -> Raw;
 }
 
 enum Entry {
@@ -96,6 +106,9 @@ const KEPT: u64 = 0x6b65_7074_2121_5a5a;
 
 /// The library's answer, or what it did to words that it had no business with.
 pub fn answer(question: usize, a: &[u64], b: &[u64]) -> Result<Answer, String> {
+    if question == FIXING {
+        return fixed(a, b[0] == 1, b[1], b[2] as usize);
+    }
     // guard, a, guard, b, guard, first output, guard, second output, guard
     let (at_a, at_b) = (1, a.len() + 2);
     let (first, second) = (at_b + b.len() + 1, at_b + b.len() + 3);
@@ -129,6 +142,41 @@ pub fn answer(question: usize, a: &[u64], b: &[u64]) -> Result<Answer, String> {
     }
     if lent != before {
         return Err("a lent word or one beside it is changed".into());
+    }
+    Ok(Answer {
+        refusal: raw.refusal,
+        value: raw.value,
+        written,
+    })
+}
+
+/// A type fixed into an output of so many words, each of them another before the call.
+fn fixed(t: &[u64], external: bool, context: u64, room: usize) -> Result<Answer, String> {
+    // guard, t, guard, output, guard
+    let at = t.len() + 2;
+    let mut lent = vec![GUARD; at + room + 1];
+    lent[1..=t.len()].copy_from_slice(t);
+    for word in 0..room {
+        lent[at + word] = KEPT + word as u64;
+    }
+    let mut before = lent.clone();
+
+    let base = lent.as_mut_ptr();
+    // Both slices are inside `lent` and apart; an empty one points to a guard.
+    let raw = unsafe {
+        let (from, to) = (base.add(1), base.add(at));
+        tj_fix_type_for_flags(from, t.len(), external, context, to, room)
+    };
+
+    let count = match raw.refusal {
+        0 if raw.value > room as u64 => return Err(format!("{} words of {room}", raw.value)),
+        0 => raw.value as usize,
+        _ => 0,
+    };
+    let written = lent[at..at + count].to_vec();
+    before[at..at + count].copy_from_slice(&written);
+    if lent != before {
+        return Err("a word that is to be kept is changed".into());
     }
     Ok(Answer {
         refusal: raw.refusal,

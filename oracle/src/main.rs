@@ -15,6 +15,8 @@ mod face;
 mod prelude;
 mod random;
 #[cfg(face)]
+mod records;
+#[cfg(face)]
 mod small;
 mod smoke;
 mod types;
@@ -24,7 +26,8 @@ use std::env;
 use std::io::Write;
 use std::process::exit;
 
-const USAGE: &str = "oracle smoke | oracle cases | oracle answers COUNT SEED | oracle compare SCALE SEED";
+const USAGE: &str =
+    "oracle smoke | oracle cases | oracle answers COUNT SEED | oracle compare SCALE SEED";
 
 fn main() {
     let words: Vec<String> = env::args().skip(1).collect();

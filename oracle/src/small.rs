@@ -72,6 +72,32 @@ pub fn types_of_three() -> Vec<Vec<u64>> {
     all
 }
 
+/// Every type of one, two and three layers, each kind with fields of its own.
+pub fn types_to_three() -> Vec<Vec<u64>> {
+    let layers = good_layers(&[0, 5], &[0, 1, 8]);
+    let own = |layer: &&Layer| match layer[0] {
+        ARRAY => layer[2] == 8,
+        NAMED | STRUCT => layer[1] == 5,
+        WORD => layer[1] == 5 && layer[2] == 8,
+        UNRESOLVED => layer[1] == 5 || layer[2] == 0,
+        _ => true,
+    };
+    let (leaves, outers): (Vec<Layer>, Vec<Layer>) = layers
+        .iter()
+        .filter(own)
+        .partition(|layer| is_leaf(layer[0]));
+    let mut all: Vec<Vec<u64>> = leaves.iter().map(|leaf| leaf.to_vec()).collect();
+    let mut from = 0;
+    for _ in 0..2 {
+        let inner = all[from..].to_vec();
+        from = all.len();
+        for outer in &outers {
+            all.extend(inner.iter().map(|t| [&outer[..], t].concat()));
+        }
+    }
+    all
+}
+
 /// One kind over and over, 0 to 15 times, on this leaf.
 pub fn chains(leaf: Layer) -> Vec<Vec<u64>> {
     let mut all = Vec::new();

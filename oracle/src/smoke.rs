@@ -310,7 +310,7 @@ fn externs(smoke: &mut Smoke) {
         (1, Ok(view(&structure))),
         (2, Ok(view(&structure))),
         (3, Ok(structure.clone())),
-        (4, Err(5)),
+        (4, Err((5, 0))),
     ] {
         smoke.same(
             "a Struct's context",
@@ -318,7 +318,7 @@ fn externs(smoke: &mut Smoke) {
             expected,
         );
     }
-    smoke.same("Struct in extern", fix(&structure, true, 0), Err(6));
+    smoke.same("Struct in extern", fix(&structure, true, 0), Err((6, 0)));
     smoke.same(
         "externalized",
         externalize(&pointer(&arraylike)),

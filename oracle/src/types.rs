@@ -96,6 +96,40 @@ pub fn good_type(random: &mut Random, most: usize) -> Vec<Layer> {
     }
 }
 
+/// A type that extern fixing mostly accepts; well formed or not.
+pub fn extern_type(random: &mut Random, most: usize) -> Vec<Layer> {
+    let mut outers: &[u64] = &[ARRAYLIKE, ARRAYLIKE, POINTER, VIEW];
+    let mut all = Vec::new();
+    for _ in 1..layer_count(random, most) {
+        let kind = match random.once_in(12) {
+            true => random.pick(&OUTERS),
+            false => random.pick(outers),
+        };
+        all.push(layer(random, kind));
+        outers = &[ARRAYLIKE, POINTER];
+    }
+    let kind = match random.once_in(6) {
+        true => random.pick(&[0, 5, 10, BOOL, STRUCT, WORD]),
+        false => random.pick(&[1, 2, 3, 4, 6, 7, 8, 9, 11, CHAR8]),
+    };
+    all.push(layer(random, kind));
+    all
+}
+
+/// The numbers that fixing is asked with beside a type of so many words: 1 where it is extern, the
+/// context, and the output's words, often just enough or one too few.
+pub fn flags(random: &mut Random, count: usize) -> Vec<u64> {
+    let external = random.below(2) as u64;
+    let context = match random.once_in(10) {
+        true => random.pick(&[4, 5, BIG]),
+        false => random.below(4) as u64,
+    };
+    let near = (count + random.below(8)).saturating_sub(4);
+    let any = random.below(52);
+    let room = random.pick(&[near, any, 51, 51]);
+    vec![external, context, room as u64]
+}
+
 /// Words that may fail the checks: a type with a word changed, cut, extended or out of order.
 pub fn damaged(random: &mut Random, layers: &[Layer]) -> Vec<u64> {
     let mut all = words(layers);

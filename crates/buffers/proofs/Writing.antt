@@ -7,8 +7,8 @@ use Prim.Native.Nat.{ℕ, suc, _+_, _-_, _≤_, _<_}
 use native.Mathlib.Numerals.{add-one}
 use native.Mathlib.Omega.{arith}
 use lib.Dec.{ltb}
-use lib.ListN.{length, take, drop, set, getD, length-append, length-drop, length-set, drop-of-length-le}
-use lib.Seq.{take-all, take-append-seam, drop-append-seam, drop-drop, take-length, take-suc, drop-cons, set-at, length-take-le}
+use lib.ListN.{length, take, drop, set, getD, length-append, length-drop, length-set, take-append-drop, drop-of-length-le}
+use lib.Seq.{take-all, take-at, drop-at, drop-drop, take-length, take-suc, drop-cons, set-at, length-take-le}
 use borrow.Author.Tests.{le-ltb, lt-ltb, ltb-false}
 use Rattle.buffers.specs.Written.{written}
 
@@ -62,17 +62,48 @@ length-written ws b = by-room (ltb (length b) (length ws)) refl
     by-room true e = refl
     by-room false e = simp (length-append, length-drop) (omega (arith, ltb-false (length b) (length ws) e))
 
--- the front of a run is written, then what follows it
-pub both : (a c b : List ℕ) → length a + length c ≤ length b →
-    let l = written a b in
-    let part = take (length l - length a) (drop (length a) l) in
-    take (length a) l ++ (written c part ++ drop (length l - length a) (drop (length a) l)) ≡ written (a ++ c) b
-both a c b h =
-    let l = written a b in
-    let is : l ≡ a ++ drop (length a) b = fits a b (omega arith) in
-    let n : length l ≡ length b = length-written a b in
-    let rest : drop (length a) l ≡ drop (length a) b = (rw is) ∙ drop-append-seam a (drop (length a) b) in
-    let long : length (drop (length a) b) ≤ length l - length a = simp length-drop (omega arith) in
-    let room : length c ≤ length (drop (length a) b) = simp length-drop (omega arith) in
-    let whole : length (a ++ c) ≤ length b = simp length-append (omega arith) in
-    rw (rest, take-all (length l - length a) (drop (length a) b) long, drop-of-length-le (drop (length a) b) long, append-nil, fits c (drop (length a) b) room, is, take-append-seam, drop-drop, fits (a ++ c) b whole, length-append, append-assoc)
+-- a part of a run from a word to the end, and the run with other words there
+abbrev pub part : ℕ → List ℕ → List ℕ
+part n b = take (length b - n) (drop n b)
+
+abbrev pub put : ℕ → List ℕ → List ℕ → List ℕ
+put n b c = take n b ++ (c ++ drop (length b - n) (drop n b))
+
+module _ (n : ℕ) (b : List ℕ) where
+  long : length (drop n b) ≤ length b - n
+  long = simp length-drop (omega arith)
+
+  pub part-is : part n b ≡ drop n b
+  part-is = take-all (length b - n) (drop n b) long
+
+  put-is : (c : List ℕ) → put n b c ≡ take n b ++ c
+  put-is c = rw (drop-of-length-le (drop n b) long, append-nil)
+
+  pub put-back : put n b (part n b) ≡ b
+  put-back = put-is (part n b) ∙ rw part-is (take-append-drop n b)
+
+-- words written to the front and to the part after it, in either order
+module _ (a c b : List ℕ) (n : ℕ) (e : length a ≡ n) (h : n + length c ≤ length b) where
+  whole : written (a ++ c) b ≡ a ++ (c ++ drop (n + length c) b)
+  whole =
+      let room : length (a ++ c) ≤ length b = simp length-append (omega arith) in
+      rw (fits (a ++ c) b room, length-append, e, append-assoc)
+
+  later : (l : List ℕ) → drop n l ≡ drop n b → written c (part n l) ≡ c ++ drop (n + length c) b
+  later l d =
+      let room : length c ≤ length (drop n b) = simp length-drop (omega arith) in
+      rw (part-is n l, d, fits c (drop n b) room, drop-drop)
+
+  pub front-first : put n (written a b) (written c (part n (written a b))) ≡ written (a ++ c) b
+  front-first =
+      let is : written a b ≡ a ++ drop n b = rw e at (fits a b (omega arith)) in
+      let d : drop n (written a b) ≡ drop n b = rw is (drop-at a (drop n b) n e) in
+      rw (put-is n (written a b), later (written a b) d, whole, is, take-at a (drop n b) n e)
+
+  pub front-last : written a (put n b (written c (part n b))) ≡ written (a ++ c) b
+  front-last =
+      let l = take n b ++ (c ++ drop (n + length c) b) in
+      let k : length (take n b) ≡ n = length-take-le n b (omega arith) in
+      let m : length l ≡ length b = simp (length-append, length-drop, k) (omega arith) in
+      let room : length a ≤ length l = omega arith in
+      rw (put-is n b, later b refl, whole, fits a l room, e, drop-at (take n b) (c ++ drop (n + length c) b) n k)

@@ -1,4 +1,5 @@
-// Asks every question about one type and about two, of ordinary words and of the worst. What it writes is held to the stored lines.
+// Asks every question about one type and about two, and fixes types, of ordinary words and of the worst. What it writes is held to the stored lines.
+mod fixing;
 mod inputs;
 mod pairs;
 mod report;
@@ -12,4 +13,5 @@ fn main() {
     inputs::nested();
     inputs::arrays();
     pairs::pairs();
+    fixing::fixing();
 }

@@ -7,7 +7,7 @@ use coercions::Coercion;
 use relations::Relation;
 
 // The words of a type.
-fn words(t: &[u64], count: usize) -> &[u64] {
+pub(crate) fn words(t: &[u64], count: usize) -> &[u64] {
     if count <= t.len() { &t[..count] } else { t }
 }
 

@@ -14,7 +14,7 @@ pub(crate) fn text(s: &[u8]) {
     io::write_all(OUT, s);
 }
 
-fn given(n: u64) {
+pub(crate) fn given(n: u64) {
     text(b" ");
     io::print_decimal(OUT, n);
 }
@@ -26,7 +26,7 @@ fn refused(number: u64, place: u64) {
     io::print_decimal(OUT, place);
 }
 
-fn checked(c: Checked) {
+pub(crate) fn checked(c: Checked) {
     match c {
         Checked::Good(n) => given(n),
         Checked::Refused { number, place } => refused(number, place),

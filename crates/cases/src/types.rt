@@ -3,6 +3,9 @@ use kinds::Kind;
 // How many types are held against each other.
 pub(crate) const TYPES: usize = 24;
 
+// How many are fixed: those, and some more.
+pub(crate) const FIXED: usize = 32;
+
 // A type of at most three layers: its words, and how many there are.
 pub(crate) struct Type {
     pub words: [u64; 9],
@@ -69,7 +72,20 @@ fn references(i: usize) -> Type {
     }
 }
 
-// The types by their number; the last two are none: a leaf early, and a bad layer.
+fn arraylikes(i: usize) -> Type {
+    match i {
+        24 => one(Kind::ARRAYLIKE, 0, 0, Kind::BOOL),
+        25 => one(Kind::ARRAYLIKE, 0, 0, Kind::VOID),
+        26 => two(Kind::ARRAYLIKE, Kind::ARRAYLIKE, Kind::INT8),
+        27 => two(Kind::ARRAYLIKE, Kind::VIEW, Kind::INT8),
+        28 => two(Kind::ARRAYLIKE, Kind::SLICE, Kind::INT8),
+        29 => two(Kind::ARRAYLIKE, Kind::ENDLESS_ARRAY, Kind::INT8),
+        30 => two(Kind::POINTER, Kind::ARRAYLIKE, Kind::BOOL),
+        _ => two(Kind::VIEW, Kind::VIEW, Kind::INT8),
+    }
+}
+
+// The types by their number; 22 and 23 are none: a leaf early, and a bad layer.
 pub(crate) fn type_at(i: usize) -> Type {
     if i < 8 {
         return leaves(i);
@@ -77,5 +93,8 @@ pub(crate) fn type_at(i: usize) -> Type {
     if i < 16 {
         return arrays(i);
     }
-    references(i)
+    if i < TYPES {
+        return references(i);
+    }
+    arraylikes(i)
 }

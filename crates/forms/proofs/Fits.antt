@@ -14,10 +14,10 @@ use Rattle.forms.specs.Formed.{inner, element, wellFormed}
 
 -- what holds of each kind that a test lists holds of the kind that passed the test
 module _ (P : ℕ → Type 0) (k : ℕ) where
-  one : (n : ℕ) → eqb k n ≡ true → P n → P k
+  pub one : (n : ℕ) → eqb k n ≡ true → P n → P k
   one n e p = subst P (sym (eqb-true k n e)) p
 
-  or : (b : Bool) (n : ℕ) → (b || eqb k n) ≡ true → P n → (b ≡ true → P k) → P k
+  pub or : (b : Bool) (n : ℕ) → (b || eqb k n) ≡ true → P n → (b ≡ true → P k) → P k
   or true n e p f = f refl
   or false n e p f = one n e p
 
@@ -27,7 +27,7 @@ module _ (P : ℕ → Type 0) (k : ℕ) where
   slices : isSlice k ≡ true → P 16 → P 17 → P k
   slices t a b = or _ 17 t b (λ t. one 16 t a)
 
-  references : isReference k ≡ true → P 23 → P 24 → P k
+  pub references : isReference k ≡ true → P 23 → P 24 → P k
   references t a b = or _ 24 t b (λ t. one 23 t a)
 
 -- a test that failed, taken apart
@@ -35,7 +35,7 @@ last : (a b : Bool) → (a || b) ≡ false → b ≡ false
 last false b e = e
 last true b e = absurd (true≢false e)
 
-or-false : (b : Bool) → (b || false) ≡ b
+pub or-false : (b : Bool) → (b || false) ≡ b
 or-false true = refl
 or-false false = refl
 

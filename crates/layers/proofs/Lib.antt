@@ -2,9 +2,11 @@
 pub mod Decide
 pub mod Words
 pub mod Spelling
+pub mod Given
 pub mod Table
 pub mod Within
 pub mod Checks
+pub mod Accepted
 pub mod Cycle
 pub mod Refusals
 pub mod Apart

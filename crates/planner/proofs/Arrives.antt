@@ -12,13 +12,14 @@ use Rattle.layers.specs.Answer.{Answer, given, nothing, refused}
 use Rattle.forms.specs.Formed.{wellFormed}
 use Rattle.steps.specs.Steps.{Step}
 use Rattle.turns.specs.Settling.{Settled, settle}
-use Rattle.turns.proofs.Given.{not-given, nothing-given, given-is}
+use Rattle.layers.proofs.Given.{not-given, nothing-given, given-is}
 use Rattle.walker.specs.Walker.{at, Stored, typed, walker, arrives}
 use Rattle.planner.specs.Walk.{Walk, ended, stopped, walk}
 use Rattle.planner.specs.Plan.{Plan, narrow, withSettling, settleWalk, planOf}
 use Rattle.planner.specs.Demand.{asked, unmarked, usedUp, Hidden, Demand}
 use Rattle.planner.proofs.Walks.{asked-append, walker-append, walks, in-order, all-taken}
-use Rattle.planner.proofs.Sound.{goodLayers, Sound, walk-sound}
+use Rattle.layers.proofs.Accepted.{goodLayers}
+use Rattle.planner.proofs.Sound.{Sound, walk-sound}
 use Rattle.planner.proofs.Settles.{Exception, settles, asks-nothing}
 
 module _ (stored : ℕ → Stored) (members : (id : ℕ) (t : List Layer) → stored id ≡ typed t → goodLayers t ≡ true)

@@ -15,7 +15,7 @@ use Rattle.steps.specs.StepKind as of-step
 use Rattle.steps.specs.Steps.{Step}
 use Rattle.turns.specs.declared.turn.Turn.{Turn}
 use Rattle.turns.specs.declared.turn.Turn.the-variants.{Stuck, Auto, Element, Desliced, Member}
-use Rattle.turns.proofs.Given.{not-given, given-is}
+use Rattle.layers.proofs.Given.{not-given, given-is}
 use Rattle.turns.proofs.Cases.{cases}
 use Rattle.walker.specs.Walker.{at, Stored, typed, absent, act, walker}
 use Rattle.planner.specs.Walk.{stepsOf, takenBy, memberType, goes, turnOf}

@@ -7,4 +7,9 @@ pub mod Arrives
 pub mod Going
 pub mod Reading
 pub mod Pushing
+pub mod Delivering
+pub mod Finishing
+pub mod Turning
+pub mod Outcomes
+pub mod Asking
 pub mod Table

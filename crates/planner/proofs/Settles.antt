@@ -21,17 +21,15 @@ use Rattle.forms.specs.Formed.{inner, wellFormed}
 use Rattle.relations.specs.Relations.{identical}
 use Rattle.relations.proofs.Theorems.{identical-equal}
 use Rattle.coercions.specs.Coercions.{coerces, addressCoerces}
+use Rattle.layers.proofs.Decide.{both}
 use Rattle.steps.specs.StepKind as of-step
 use Rattle.steps.specs.Steps.{Step, step}
 use Rattle.turns.specs.Settling.{Settled, settled, pointer, dereferenced, settleOtherwise, settle}
 use Rattle.turns.proofs.Lines.{lines}
 use Rattle.walker.specs.Walker.{at, Stored, act, walker, arrives}
 use Rattle.planner.specs.Demand.{asked}
-use Rattle.planner.proofs.Sound.{goodLayers, Sound, inner-of}
-
-both : (u v : Bool) → (u && v) ≡ true → (u ≡ true) × (v ≡ true)
-both true v e = (refl, e)
-both false v e = absurd (false≢true e)
+use Rattle.layers.proofs.Accepted.{goodLayers}
+use Rattle.planner.proofs.Sound.{Sound, inner-of}
 
 -- a good layer of the kind Pointer is a Pointer
 exact : (x : Layer) → goodLayer x ≡ true → x .kind ≡ kind.pointer → x ≡ pointer

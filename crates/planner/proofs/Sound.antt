@@ -10,19 +10,17 @@ use borrow.Author.Tests.{eqb-true}
 use Rattle.kinds.specs.Kind as kind
 use Rattle.layers.specs.Layers.{Layer, outer, inside, isArray, isSlice, isReference, holdsInner}
 use Rattle.layers.specs.Answer.{given, refused}
-use Rattle.layers.specs.Check.{Place, at, nowhere, goodLayer, badLayer}
+use Rattle.layers.specs.Check.{goodLayer}
+use Rattle.layers.proofs.Accepted.{goodLayers}
+use Rattle.layers.proofs.Decide.{both}
 use Rattle.forms.specs.Formed.{inner, element, wellFormed}
 use Rattle.steps.specs.Steps.{Step}
-use Rattle.turns.proofs.Given.{not-given, given-is}
+use Rattle.layers.proofs.Given.{not-given, given-is}
 use Rattle.turns.proofs.Cases.{cases}
 use Rattle.walker.specs.Walker.{Stored, typed, absent}
 use Rattle.planner.specs.Walk.{ended, goes, turnOf, memberType, walk}
 use Rattle.planner.proofs.Leads.{reached, one-in, two-in}
 use Rattle.planner.proofs.Walks.{every-walk}
-
-unfoldable pub goodLayers : List Layer → Bool
-goodLayers [] = true
-goodLayers (x ∷ a) = goodLayer x && goodLayers a
 
 -- a type of good layers that is well formed
 pub record Sound (t : List Layer) : Type 0 where
@@ -59,11 +57,7 @@ pub part-sound : (t : List Layer) → holdsInner (outer t) ≡ true → Sound t 
 unfolding outer inside goodLayers
 part-sound [] e s = absurd (false≢true e)
 part-sound (x ∷ a) e s =
-    record { formed = inner-formed a (inner-of x a e (s .formed)); good = right (goodLayer x) (goodLayers a) (s .good) }
-  where
-    right : (u v : Bool) → (u && v) ≡ true → v ≡ true
-    right true v e = e
-    right false v e = absurd (false≢true e)
+    record { formed = inner-formed a (inner-of x a e (s .formed)); good = both (goodLayer x) (goodLayers a) (s .good) .1 }
 
 holds-array : (k : ℕ) → isArray k ≡ true → holdsInner k ≡ true
 holds-array k e = rw e

@@ -3,6 +3,7 @@ use parts::inner;
 use steps::StepKind;
 use steps::four;
 use turns::Turn;
+use walker::member;
 ghost use mathlib.Core.Path.{_≡_};
 ghost use mathlib.Core.List.{_++_};
 ghost use Prim.Native.Nat.{_+_, _*_, _≤_};
@@ -10,6 +11,7 @@ ghost use lib.ListN.{length, take, getD};
 ghost use Rattle.layers.specs.Layers.{layers};
 ghost use Rattle.steps.specs.Steps.{stepWords};
 ghost use Rattle.steps.proofs.Words.{stepAt};
+ghost use Rattle.walker.specs.Members.{memberIn};
 ghost use Rattle.planner.specs.Walk.{stepsOf, takenBy};
 ghost use Rattle.planner.specs.Rounds as rounds;
 
@@ -39,6 +41,32 @@ pub(crate) fn refusal(t: Turn, next: &[u64]) -> u64
         Turn::Element { mark: _, layers: _ } => 0,
         Turn::Desliced(_) => 0,
         Turn::Member => member_refusal(next),
+    }
+}
+
+// The words where a round goes on: a part of the current type's, or of the store.
+pub(crate) fn onto<'a>(
+    flat: &[u64; 768],
+    n: usize,
+    store: &'a [u64],
+    cur: &'a [u64],
+    handle: u64,
+    t: Turn,
+) -> &'a [u64]
+    ensures { λ r. ⌜ now r ≡ rounds.onto (memberIn (now (flat .entry)) n (now (store .entry))) (now (cur .entry)) handle t ⌝ }
+{
+    match t {
+        Turn::Stuck => cur,
+        Turn::Auto(_) => inner(cur),
+        Turn::Element { mark: _, layers } => {
+            if layers == 1 {
+                inner(cur)
+            } else {
+                inner(inner(cur))
+            }
+        }
+        Turn::Desliced(_) => inner(cur),
+        Turn::Member => member(flat, n, store, handle),
     }
 }
 

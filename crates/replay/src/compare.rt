@@ -1,6 +1,9 @@
 use crate::answer::BEFORE;
 use crate::answer::Got;
 use crate::answer::ask;
+use crate::fixing::Expected;
+use crate::fixing::FIXING;
+use crate::fixing::fixes;
 use crate::read::number;
 use crate::read::numbers;
 use crate::read::room;
@@ -15,10 +18,13 @@ struct Case {
     next: usize,
 }
 
-fn agrees(got: Got, refusal: u64, value: u64, written: u64, words: [u64; 64]) -> bool {
-    let first = if written > 0 { words[0] } else { BEFORE };
-    let second = if written > 1 { words[1] } else { BEFORE };
-    (got.refusal == refusal) & (got.value == value) & (got.first == first) & (got.second == second)
+fn agrees(got: Got, e: Expected, words: &[u64; 64]) -> bool {
+    let first = if e.written > 0 { words[0] } else { BEFORE };
+    let second = if e.written > 1 { words[1] } else { BEFORE };
+    (got.refusal == e.refusal)
+        & (got.value == e.value)
+        & (got.first == first)
+        & (got.second == second)
 }
 
 // The first words of a buffer.
@@ -26,8 +32,19 @@ fn first(words: &[u64], n: usize) -> &[u64] {
     if n <= words.len() { &words[..n] } else { words }
 }
 
-fn asked(f: u64, left: &[u64; 64], na: usize, right: &[u64; 64], nb: usize) -> Got {
-    ask(f, first(left, na), first(right, nb))
+fn agreed(
+    f: u64,
+    left: &[u64; 64],
+    na: usize,
+    right: &[u64; 64],
+    nb: usize,
+    words: &[u64; 64],
+    e: Expected,
+) -> bool {
+    if f == FIXING {
+        return fixes(first(left, na), right, words, e);
+    }
+    agrees(ask(f, first(left, na), first(right, nb)), e, words)
 }
 
 fn case_at(s: &[u8], at: usize) -> Case
@@ -41,16 +58,21 @@ fn case_at(s: &[u8], at: usize) -> Case
     let refusal = number(s, function.next);
     let value = number(s, refusal.next);
     let written = number(s, value.next);
-    let after = numbers(s, written.next, room(written.value), &mut words);
+    let count = room(written.value);
+    let after = numbers(s, written.next, count, &mut words);
     let lefts = number(s, after);
     let na = room(lefts.value);
     let rest = numbers(s, lefts.next, na, &mut left);
     let rights = number(s, rest);
     let nb = room(rights.value);
     let next = numbers(s, rights.next, nb, &mut right);
-    let got = asked(function.value, &left, na, &right, nb);
+    let expected = Expected {
+        refusal: refusal.value,
+        value: value.value,
+        written: count,
+    };
     Case {
-        same: agrees(got, refusal.value, value.value, written.value, words),
+        same: agreed(function.value, &left, na, &right, nb, &words, expected),
         next,
     }
 }

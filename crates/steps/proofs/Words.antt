@@ -3,7 +3,7 @@
 use mathlib.Core.Path.{_≡_, refl, sym, ap, _∙_}
 use mathlib.Core.Bool.{Bool, true, false, cond, _&&_}
 use mathlib.Core.List.{List, [], _∷_, _++_}
-use Prim.Native.Nat.{ℕ, suc, _+_, _*_, _-_, _≤_, _<_}
+use Prim.Native.Nat.{ℕ, suc, _+_, _*_, _-_, _%_, _≤_, _<_}
 use native.Mathlib.Omega.{arith}
 use lib.Dec.{leb}
 use lib.ListN.{length, take, drop, set, getD, length-append, length-take, length-drop}
@@ -95,3 +95,11 @@ put-take s at b e =
     let w : List ℕ = s .kind ∷ s .handle ∷ s .mark ∷ s .number ∷ [] in
     rw (put-in b at (s .kind) (s .handle) (s .mark) (s .number) e)
     (take-at (take at b ++ w) (drop (at + 4) b) (at + 4) (simp (length-append, length-take) (omega arith)))
+
+pub words-whole : (q : List ℕ) → length q % 4 ≡ 0 → stepWords (steps q) ≡ q
+unfolding stepWords steps
+words-whole [] h = refl
+words-whole (k ∷ []) h = absurd (omega (arith, h))
+words-whole (k ∷ j ∷ []) h = absurd (omega (arith, h))
+words-whole (k ∷ j ∷ m ∷ []) h = absurd (omega (arith, h))
+words-whole (k ∷ j ∷ m ∷ n ∷ q) h = ap (λ (l : List ℕ). k ∷ j ∷ m ∷ n ∷ l) (words-whole q (omega (arith, h)))

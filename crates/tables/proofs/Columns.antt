@@ -251,3 +251,13 @@ row-in ws i id s h e = e ∙ sym (ap (λ (t : Bool). cond t (under id (rowAt ws 
 pub row-past : (ws : List ℕ) (i id : ℕ) (s : Symbol) → 128 ≤ i → s ≡ under id vacant → s ≡ rowUnder ws i id
 unfolding rowUnder
 row-past ws i id s h e = e ∙ sym (ap (λ (t : Bool). cond t (under id (rowAt ws i)) (under id vacant)) (le-ltb i 128 h))
+
+-- a row under its own id is its record
+pub row-found : (flat : List ℕ) (n id k : ℕ) (s : Symbol) → n ≤ 128 → k < n → getD (readFrom flat 0 n) k vacant .id ≡ id →
+    s ≡ rowUnder flat k id → s ≡ getD (readFrom flat 0 n) k vacant
+unfolding rowUnder rowAt
+row-found flat n id k s few h has q =
+    let below : k < 128 = omega arith in
+    let here = getD-read flat 0 n k h ∙ ap (rowAt flat) (zero-add k) in
+    let same : getD flat k 0 ≡ id = sym (ap (λ (x : Symbol). x .id) here) ∙ has in
+    (rw (lt-ltb k 128 below) at q) ∙ (λ t. under (sym same t) (rowAt flat k)) ∙ sym here

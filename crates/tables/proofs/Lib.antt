@@ -3,4 +3,5 @@ pub mod Guard
 pub mod Columns
 pub mod Sentences
 pub mod Ordered
+pub mod Setting
 pub mod Single

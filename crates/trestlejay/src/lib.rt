@@ -1,11 +1,14 @@
 // The C face: each public question as an exported function, as include/trestlejay.h declares it.
+mod fixing;
 mod measures;
 mod pairs;
 mod properties;
+mod records;
 mod starts;
 mod uses;
 
 pub use answers::Answer;
+pub use fixing::tj_fix_type_for_flags;
 pub use measures::tj_known_size_in_bytes_as_word_member;
 pub use measures::tj_max_u128;
 pub use measures::tj_min_i128;
@@ -27,10 +30,18 @@ pub use properties::tj_is_signed;
 pub use properties::tj_is_slice_pointer;
 pub use properties::tj_is_void;
 pub use properties::tj_is_wellformed;
+pub use records::tj_forward_declare_poison;
+pub use records::tj_forward_declare_type;
+pub use records::tj_get_symbol;
+pub use records::tj_put_nothing;
+pub use records::tj_put_poison;
+pub use records::tj_put_type;
+pub use records::tj_update_symbol;
 pub use starts::tj_fully_dereferenced;
 pub use starts::tj_get_element_type;
 pub use starts::tj_get_pointee_type;
 pub use starts::tj_get_viewee_type;
+pub use tables::Symbol;
 pub use uses::tj_can_be_constant;
 pub use uses::tj_can_be_parameter;
 pub use uses::tj_can_be_returned;

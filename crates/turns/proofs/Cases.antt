@@ -8,6 +8,7 @@ use lib.Dec.{eqb}
 use borrow.Author.Tests.{eqb-true}
 use Rattle.kinds.specs.Kind as kind
 use Rattle.layers.specs.Layers.{isArray, isReference}
+use Rattle.layers.proofs.Decide.{both}
 use Rattle.steps.specs.StepKind as of-step
 use Rattle.turns.specs.declared.turn.Turn.{Turn}
 use Rattle.turns.specs.declared.turn.Turn.the-variants.{Stuck, Auto, Element, Desliced, Member}
@@ -24,10 +25,6 @@ either k l m e = by-test (eqb k l) refl
 -- a test of two kinds
 tells : (test : ℕ → Bool) (b : Bool) (k l m : ℕ) → test l ≡ b → test m ≡ b → (eqb k l || eqb k m) ≡ true → test k ≡ b
 tells test b k l m p q e = ⊎-elim (λ (f : k ≡ l). rw f p) (λ (f : k ≡ m). rw f q) (either k l m e)
-
-both : (u v : Bool) → (u && v) ≡ true → (u ≡ true) × (v ≡ true)
-both true v e = (refl, e)
-both false v e = absurd (false≢true e)
 
 module _ (k l asked mark : ℕ) (P : Turn → Type 0)
     (stuck : P Stuck)

@@ -1,5 +1,4 @@
 -- What the proofs of several functions use, and what follows from the definitions.
-pub mod Given
 pub mod Cases
 pub mod Lines
 pub mod Decided

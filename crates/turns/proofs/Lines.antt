@@ -13,14 +13,11 @@ use Rattle.layers.specs.Answer.{given, refused}
 use Rattle.sizes.specs.Depth.{pointerDepth}
 use Rattle.relations.specs.Relations.{identical}
 use Rattle.coercions.specs.Coercions.{coerces, addressCoerces}
+use Rattle.layers.proofs.Decide.{both}
 use Rattle.steps.specs.StepKind as of-step
 use Rattle.steps.specs.Steps.{step}
 use Rattle.turns.specs.Settling.{Settled, settled, byAddress, plainly, dereferenced, settleOtherwise, settle}
-use Rattle.turns.proofs.Given.{not-given, given-is}
-
-both : (u v : Bool) → (u && v) ≡ true → (u ≡ true) × (v ≡ true)
-both true v e = (refl, e)
-both false v e = absurd (false≢true e)
+use Rattle.layers.proofs.Given.{not-given, given-is}
 
 module _ (c t : List Layer) (n : ℕ) (P : Settled → Type 0)
     (stays : (b : Bool) → P (settled [] c false b))

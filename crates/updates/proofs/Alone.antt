@@ -1,48 +1,78 @@
 -- A record that stands alone: whether it is in order, and what becomes of it, by what the code tested.
 -- Assumes nothing.
 use mathlib.Core.Path.{_≡_, refl}
-use mathlib.Core.Bool.{Bool, true, false}
-use mathlib.Core.List.{List}
-use Prim.Native.Nat.{ℕ, _<_, _≤_}
+use mathlib.Core.Bool.{Bool, true, false, cond, not, _&&_}
+use mathlib.Core.List.{List, [], _∷_}
+use Prim.Native.Nat.{ℕ, _/_, _<_, _≤_}
+use native.Mathlib.Omega.{arith}
 use lib.Dec.{eqb, leb}
 use lib.ListN.{length}
-use borrow.Author.Tests.{ne-eqb, lt-leb, le-leb}
-use Rattle.layers.specs.Answer as paper
+use borrow.Author.Tests.{eqb-false, ne-eqb, lt-leb, le-leb}
 use Rattle.layers.specs.Answer.{given, refused, ofChecked}
 use Rattle.layers.specs.Check.{checkOf}
 use Rattle.layers.specs.declared.answers.Checked.{Checked}
 use Rattle.layers.specs.declared.answers.Checked.the-variants.{Good, Refused}
+use Rattle.tables.specs.Order.{isGood, knownStates, allFree, takenFirst, taken, hasId, repeats, passes, allPass, inOrder}
 use Rattle.tables.specs.declared.symbol.Symbol.{Symbol}
 use Rattle.answers.specs.declared.flat.Answer.{Answer}
 use Rattle.answers.specs.Flat.{notAccepted}
 use Rattle.updates.specs.Updates.{storedOf, updated, wordsAfter}
-use Rattle.updates.specs.Lone.{passes, inOrder, loneCheck, loneUpdated, loneWordsAfter}
+use Rattle.updates.specs.Lone.{loneInOrder, loneCheck, loneUpdated, loneWordsAfter}
 use Rattle.updates.specs.declared.record.Updated.{Updated}
+use Rattle.updates.proofs.Parts.{present}
 
+-- a table of one record
 module _ (s : Symbol) (ws : List ℕ) where
-  pub miscounted : (length ws ≡ 48 → ⊥) → false ≡ inOrder s ws
-  unfolding inOrder
-  miscounted h = rw (ne-eqb (length ws) 48 h)
+  pub one : loneInOrder s ws
+      ≡ cond (eqb (length ws) 48) (cond (eqb (s .state) 0) false (leb (s .state) 2 && passes (s .state) (s .layers) ws)) false
+  unfolding loneInOrder inOrder knownStates takenFirst allFree taken repeats hasId allPass
+  one = by-tests (eqb (s .state) 0) (leb (s .state) 2) (passes (s .state) (s .layers) ws) (eqb (length ws) 48)
+    where
+      by-tests : (f k p l : Bool) →
+          ((k && true) && cond f true true && not (repeats (cond f [] (s ∷ []))) && (p && true) && l && not f)
+          ≡ cond l (cond f false (k && p)) false
+      by-tests true true true true = refl
+      by-tests true true true false = refl
+      by-tests true true false true = refl
+      by-tests true true false false = refl
+      by-tests true false p true = refl
+      by-tests true false p false = refl
+      by-tests false true true true = refl
+      by-tests false true true false = refl
+      by-tests false true false true = refl
+      by-tests false true false false = refl
+      by-tests false false p true = refl
+      by-tests false false p false = refl
+
+  pub miscounted : (length ws ≡ 48 → ⊥) → false ≡ loneInOrder s ws
+  miscounted h = rw (one, ne-eqb (length ws) 48 h)
 
   module _ (h : length ws ≡ 48) where
-    pub poisoned-fits : s .state ≡ 2 → true ≡ inOrder s ws
-    unfolding inOrder
-    poisoned-fits e = rw (h, e)
+    pub poisoned-fits : s .state ≡ 2 → true ≡ loneInOrder s ws
+    unfolding passes
+    poisoned-fits e = rw (one, h, e)
 
     module _ (p : s .state ≡ 2 → ⊥) where
-      pub not-taken : (s .state ≡ 1 → ⊥) → false ≡ inOrder s ws
-      unfolding inOrder
-      not-taken t = rw (h, ne-eqb (s .state) 2 p, ne-eqb (s .state) 1 t)
+      pub not-taken : (s .state ≡ 1 → ⊥) → false ≡ loneInOrder s ws
+      not-taken t = by-free (eqb (s .state) 0) refl
+        where
+          by-free : (f : Bool) → eqb (s .state) 0 ≡ f → false ≡ loneInOrder s ws
+          by-free true e = rw (one, h, e)
+          by-free false e =
+              let over : 2 < s .state = omega (arith, eqb-false (s .state) 0 e, p, t) in
+              rw (one, h, e, lt-leb (s .state) 2 over)
 
       module _ (t : s .state ≡ 1) where
-        pub too-many : 16 < s .layers → false ≡ inOrder s ws
-        unfolding inOrder
-        too-many m = rw (h, t, lt-leb (s .layers) 16 m)
+        pub too-many : 16 < s .layers → false ≡ loneInOrder s ws
+        unfolding passes
+        too-many m = rw (one, h, t, lt-leb (s .layers) 16 m)
 
-        pub typed-fits : (part : List ℕ) (r : Bool) → s .layers ≤ 16 → part ≡ storedOf (s .layers) ws → r ≡ passes part →
-            r ≡ inOrder s ws
-        unfolding inOrder
-        typed-fits part r m e f = rw (h, t, le-leb (s .layers) 16 m, ← e, f)
+        pub typed-fits : (part : List ℕ) (r : Bool) → s .layers ≤ 16 → part ≡ storedOf (s .layers) ws → r ≡ isGood (checkOf part) →
+            r ≡ loneInOrder s ws
+        unfolding passes
+        typed-fits part r m e f =
+            let room : s .layers ≤ length ws / 3 = omega arith in
+            rw (one, h, t, le-leb (s .layers) 16 m, present (s .layers) ws room, ← e, f)
 
 -- x is what the checks said of the offered words
 module _ (s : Symbol) (ws : List ℕ) (authority : Bool) (offered : List ℕ) (x : Checked) (e : ofChecked x ≡ checkOf offered) where
@@ -60,7 +90,7 @@ module _ (s : Symbol) (ws : List ℕ) (authority : Bool) (offered : List ℕ) (x
     unfolding loneWordsAfter
     keeps-refused = rw refuses
 
-  module _ (n : ℕ) (h : x ≡ Good n) (b : Bool) (i : b ≡ inOrder s ws) where
+  module _ (n : ℕ) (h : x ≡ Good n) (b : Bool) (i : b ≡ loneInOrder s ws) where
     module _ (o : b ≡ false) where
       disordered : loneCheck s ws offered ≡ refused 12 0
       unfolding loneCheck

@@ -4,4 +4,6 @@ pub mod Parts
 pub mod Alone
 pub mod Passing
 pub mod Outcomes
+pub mod Cases
+pub mod Theorems
 pub mod Single

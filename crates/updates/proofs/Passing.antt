@@ -8,13 +8,11 @@ use Rattle.layers.specs.Answer.{ofChecked}
 use Rattle.layers.specs.Check.{checkOf}
 use Rattle.layers.specs.declared.answers.Checked.{Checked}
 use Rattle.layers.specs.declared.answers.Checked.the-variants.{Good, Refused}
-use Rattle.updates.specs.Lone.{passes}
+use Rattle.tables.specs.Order.{isGood}
 
 module _ (ws : List ℕ) (x : Checked) (e : ofChecked x ≡ checkOf ws) where
-  pub fails : (n p : ℕ) → x ≡ Refused n p → false ≡ passes ws
-  unfolding passes
+  pub fails : (n p : ℕ) → x ≡ Refused n p → false ≡ isGood (checkOf ws)
   fails n p h = rw (← e, h)
 
-  pub succeeds : (n : ℕ) → x ≡ Good n → true ≡ passes ws
-  unfolding passes
+  pub succeeds : (n : ℕ) → x ≡ Good n → true ≡ isGood (checkOf ws)
   succeeds n h = rw (← e, h)

@@ -17,7 +17,7 @@ pub(crate) enum Line {
     Conflicting,
 }
 
-// The first line that applies.
+// The first line that applies. authoritative: the symbol is; newly: the new identifier is.
 pub(crate) fn decide(
     poisoned: bool,
     authoritative: bool,

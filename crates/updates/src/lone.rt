@@ -7,11 +7,13 @@ use layers::Checked;
 use layers::check_type;
 use tables::Symbol;
 ghost use mathlib.Core.Path.{_≡_};
+ghost use Rattle.layers.specs.Check.{checkOf};
+ghost use Rattle.tables.specs.Order.{isGood};
 ghost use Rattle.updates.specs.Lone as rules;
 
 // Whether words pass the checks 1 to 3.
 fn passes(ws: &[u64]) -> bool
-    ensures { λ r. ⌜ r ≡ rules.passes (now (ws .entry)) ⌝ }
+    ensures { λ r. ⌜ r ≡ isGood (checkOf (now (ws .entry))) ⌝ }
 {
     match check_type(ws) {
         Checked::Refused {
@@ -24,7 +26,7 @@ fn passes(ws: &[u64]) -> bool
 
 // Whether a taken record with its words is a table of one that is in order.
 fn in_order(s: Symbol, words: &[u64]) -> bool
-    ensures { λ r. ⌜ r ≡ rules.inOrder s (now (words .entry)) ⌝ }
+    ensures { λ r. ⌜ r ≡ rules.loneInOrder s (now (words .entry)) ⌝ }
 {
     if words.len() != 48 {
         return false;

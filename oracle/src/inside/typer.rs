@@ -4,6 +4,7 @@
 use super::{do_update_symbol, externalize_type, fix_type_for_flags, FixContext, Symbol, Typer};
 use crate::caught::caught;
 use crate::prelude::*;
+use crate::words::{encode, Refusal};
 
 /// A record that is typed or, by its mark, poisoned.
 #[derive(Debug, Clone, PartialEq)]
@@ -117,14 +118,26 @@ impl Table {
     }
 }
 
+/// What is not fixed: a number, and its place. That of 6 follows from the part that the original's
+/// error names, since every layer of the type given is one of its own or outside of it.
+fn not_fixed(value_type: &ValueType, error: &Error) -> Refusal {
+    let place = match error {
+        Error::TypeNotAllowedInExtern { value_type: part, .. } => {
+            (encode(value_type).len() - encode(part).len()) / 3
+        }
+        _ => 0,
+    };
+    (number(error), place as u64)
+}
+
 /// Contexts in document 01's numbers, which are not the order of the enum.
-pub fn fix(value_type: &ValueType, external: bool, context: u64) -> Result<ValueType, u64> {
+pub fn fix(value_type: &ValueType, external: bool, context: u64) -> Result<ValueType, Refusal> {
     let context = match context {
         0 => FixContext::Const,
         1 => FixContext::Parameter,
         2 => FixContext::Returned,
         3 => FixContext::Member,
-        _ => return Err(5),
+        _ => return Err((5, 0)),
     };
     let flags = EnumSet(if external {
         vec![DeclarationFlag::External]
@@ -133,8 +146,8 @@ pub fn fix(value_type: &ValueType, external: bool, context: u64) -> Result<Value
     });
     let none = Location::default();
     match caught(|| fix_type_for_flags(value_type.clone(), context, &flags, &none, &none)) {
-        Ok(fixed) => fixed.map_err(|error| number(&error)),
-        Err(number) => Err(number),
+        Ok(fixed) => fixed.map_err(|error| not_fixed(value_type, &error)),
+        Err(number) => Err((number, 0)),
     }
 }
 

@@ -20,7 +20,6 @@ case-at-spec =
     (λ c κs. search needs)
     (λ c κs. search needs)
     (λ c κs. search needs)
-    (λ c κs. search needs)
     (λ c.
     let at3 = c .before .before .before .before in
     let at2 = at3 .before .before .before .before in

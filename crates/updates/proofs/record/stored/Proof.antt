@@ -1,4 +1,3 @@
-use native.Mathlib.Omega.{arith}
 use borrow.Author.Needs.{needs}
 use Rattle.updates.proofs.Parts.{absent, present, whole}
 use Rattle.updates.proofs.record.stored.Statement.{statement}

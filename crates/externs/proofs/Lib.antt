@@ -1,0 +1,7 @@
+-- What the proofs of several functions use.
+pub mod Spelling
+pub mod Outcomes
+pub mod Externalizing
+pub mod Fixes
+pub mod Theorems
+pub mod Single

@@ -1,0 +1,26 @@
+use borrow.Author.Needs.{needs}
+use mathlib.Core.Path.{refl, ap}
+use Rattle.externs.specs.Outcome.{delivered}
+use Rattle.externs.proofs.Fixes.{carried, whole-inside, as-endless, as-any}
+use Rattle.externs.proofs.external.fix_external.Statement.{statement}
+use Rattle.externs.proofs.external.fix_external.Tie as tie
+
+pub fix-external-spec : {M : Type 1} → statement M
+fix-external-spec =
+    tie.close
+    (tie.spec
+    (λ c κs. search needs)
+    (λ c. search needs)
+    (λ c κs. search needs)
+    (λ c κs. search (needs, whole-inside))
+    (λ c. search needs)
+    (λ c.
+    let i = c .before .before .before .before in
+    let t = i .before .before in
+    carried _ _ _ _ _ (ap (delivered _) (as-endless _ _ (t .before .outer .ensures) _ _ refl (i .inner .ensures) (t .if1 .taken))) (c .before .before .externalize-part .ensures))
+    (λ c. search needs)
+    (λ c κs. search needs)
+    (λ c. search needs)
+    (λ c.
+    let t = c .before .before .before .before .before in
+    carried _ _ _ _ _ (ap (delivered _) (as-any _ _ (t .before .outer .ensures) (t .if1 .left))) (c .before .before .externalize-part2 .ensures)))

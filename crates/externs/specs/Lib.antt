@@ -1,0 +1,4 @@
+pub mod Fixing
+pub mod Outcome
+pub mod Room
+pub mod Answers

@@ -1,0 +1,110 @@
+use crate::outcome::write_type;
+use buffers::write_words;
+use forms::is_wellformed;
+use kinds::Kind;
+use layers::Checked;
+use parts::inner;
+use parts::outer;
+ghost use mathlib.Core.Path.{_≡_};
+ghost use mathlib.Core.Bool.{cond, _||_};
+ghost use Prim.Native.Nat.{_≤_};
+ghost use lib.Dec.{eqb};
+ghost use Rattle.kinds.specs.Kind as kind;
+ghost use Rattle.kinds.specs.Words.{words};
+ghost use Rattle.layers.specs.Layers.{layers, isReference};
+ghost use Rattle.layers.specs.Answer.{ofChecked};
+ghost use Rattle.externs.specs.Fixing as fixing;
+ghost use Rattle.externs.specs.Room.{Whole, Room};
+ghost use Rattle.externs.specs.Outcome.{told, over, answerIn, bufferIn};
+
+fn is_kept(k: u64) -> bool
+    ensures { λ r. ⌜ r ≡ fixing.kept k ⌝ }
+{
+    (k == Kind::INT8)
+        | (k == Kind::INT16)
+        | (k == Kind::INT32)
+        | (k == Kind::INT64)
+        | (k == Kind::UINT8)
+        | (k == Kind::UINT16)
+        | (k == Kind::UINT32)
+        | (k == Kind::UINT64)
+        | (k == Kind::USIZE)
+        | (k == Kind::CHAR8)
+}
+
+fn goes_inside(k: u64) -> bool
+    ensures { λ r. ⌜ r ≡ isReference k || eqb k kind.arraylike ⌝ }
+{
+    (k == Kind::POINTER) | (k == Kind::VIEW) | (k == Kind::ARRAYLIKE)
+}
+
+// What becomes of a layer that externalizing goes inside of.
+fn external_layer(k: u64, name: u64, number: u64) -> [u64; 3]
+    ensures { λ r. ⌜ r ≡ cond (eqb k kind.arraylike) (words kind.endlessArray 0 0) (words k name number) ⌝ }
+{
+    if k == Kind::ARRAYLIKE {
+        Kind::endless_array()
+    } else {
+        [k, name, number]
+    }
+}
+
+// Makes the type externalized. It starts at a place, a layer, of the type given.
+fn externalize_type(t: &[u64], place: u64, made: &mut [u64]) -> Checked
+    requires { ⌜ Room (now t) place (now made) ⌝ }
+    ensures answer { λ r. ⌜ ofChecked r ≡ told (fixing.externalized place (layers (now (t .entry)))) ⌝ }
+    ensures buffer { λ _. ⌜ now (made .exit) ≡ over (fixing.externalized place (layers (now (t .entry)))) (now (made .entry)) ⌝ }
+{
+    if t.len() < 3 {
+        return Checked::Refused { number: 6, place };
+    }
+    let k = t[0];
+    if is_kept(k) {
+        write_words(made, t);
+        return Checked::Good(t.len() as u64);
+    }
+    if !goes_inside(k) {
+        return Checked::Refused { number: 6, place };
+    }
+    let layer = external_layer(k, t[1], t[2]);
+    match externalize_type(&t[3..], place + 1, &mut made[3..]) {
+        Checked::Refused { number, place } => Checked::Refused { number, place },
+        Checked::Good(_) => {
+            write_words(made, &layer);
+            Checked::Good(t.len() as u64)
+        }
+    }
+}
+
+// The type externalized, inside of the layers in front.
+fn externalize_part(front: &[u64], t: &[u64], place: u64, out: &mut [u64]) -> Checked
+    requires { ⌜ Whole (now front) × Whole (now t) × (place ≤ 1) ⌝ }
+    ensures answer { λ r. ⌜ ofChecked r ≡ answerIn (now (out .entry)) (fixing.under (layers (now (front .entry))) (fixing.externalize place (layers (now (t .entry))))) ⌝ }
+    ensures buffer { λ _. ⌜ now (out .exit) ≡ bufferIn (now (out .entry)) (fixing.under (layers (now (front .entry))) (fixing.externalize place (layers (now (t .entry))))) ⌝ }
+{
+    if !is_wellformed(t) {
+        return Checked::Refused {
+            number: 4,
+            place: 0,
+        };
+    }
+    let mut made = [0u64; 48];
+    let n = t.len();
+    match externalize_type(t, place, &mut made) {
+        Checked::Refused { number, place } => Checked::Refused { number, place },
+        Checked::Good(_) => write_type(out, front, &made[..n]),
+    }
+}
+
+// An extern type.
+pub(crate) fn fix_external(t: &[u64], out: &mut [u64]) -> Checked
+    requires { ⌜ Whole (now t) ⌝ }
+    ensures answer { λ r. ⌜ ofChecked r ≡ answerIn (now (out .entry)) (fixing.fixedExtern (layers (now (t .entry)))) ⌝ }
+    ensures buffer { λ _. ⌜ now (out .exit) ≡ bufferIn (now (out .entry)) (fixing.fixedExtern (layers (now (t .entry)))) ⌝ }
+{
+    if outer(t) == Kind::ARRAYLIKE {
+        let front = [Kind::VIEW, 0, 0, Kind::ENDLESS_ARRAY, 0, 0];
+        return externalize_part(&front, inner(t), 1, out);
+    }
+    externalize_part(&t[..0], t, 0, out)
+}

@@ -1,0 +1,111 @@
+-- From the core, which sees a table's columns, to the table.
+-- Assumes nothing.
+use mathlib.Core.Path.{_≡_, refl, sym, ap, subst, _∙_}
+use mathlib.Core.Bool.{Bool, true, false, not}
+use mathlib.Core.List.{List}
+use Prim.Native.Nat.{ℕ, _*_, _≤_, _<_}
+use native.Mathlib.Omega.{arith}
+use lib.Dec.{T, leb, leb→le, nleb→lt}
+use lib.ListN.{length, getD, set, drop}
+use borrow.Author.Tests.{lt-leb, not-true}
+use Rattle.layers.specs.Answer as paper
+use Rattle.layers.specs.Answer.{given, nothing, refused}
+use Rattle.tables.specs.declared.symbol.Symbol.{Symbol}
+use Rattle.tables.specs.Rows.{readFrom, gathered}
+use Rattle.tables.specs.Order.{inOrder}
+use Rattle.tables.proofs.Columns.{swapped}
+use Rattle.tables.proofs.Ordered.{too-long}
+use Rattle.answers.specs.Flat.{notAccepted}
+use Rattle.symbols.specs.Changes.{offeredCheck, placeOf, unless, wayOf, nowhere, outcomeBy, outcome, changeBy, changeOf, storeOf}
+use Rattle.symbols.specs.declared.ways.Operation.{Operation}
+use Rattle.symbols.specs.declared.ways.Way.{Way}
+use Rattle.symbols.specs.declared.ways.Way.the-variants as way
+use Rattle.symbols.specs.declared.change.Change.{Change}
+use Rattle.symbols.proofs.Decided.{found-in, new-in}
+
+module _ (op : Operation) (id : ℕ) (authority : Bool) (place mark : ℕ) (offered : List ℕ) (table : List Symbol) (store : List ℕ) where
+  -- a table that is too long is refused, whatever it holds
+  refuses : paper.Answer ℕ → Change
+  refuses (refused n p) = nowhere (length table) (notAccepted n p)
+  refuses (given n) = nowhere (length table) (notAccepted 12 0)
+  refuses nothing = nowhere (length table) (notAccepted 12 0)
+
+  long-way : (l : List Symbol) → 128 < length l → wayOf op id offered l store ≡ unless (offeredCheck op offered) (way.Refused 12 0)
+  unfolding wayOf placeOf
+  long-way l h = rw (too-long l store h)
+
+  long-change : (l : List Symbol) → length l ≡ length table → 128 < length l →
+      changeOf op id authority place mark offered l store ≡ refuses (offeredCheck op offered)
+  unfolding changeOf refuses
+  long-change l e h = rw (long-way l h) (by-check (offeredCheck op offered))
+    where
+      by-check : (a : paper.Answer ℕ) → changeBy (unless a (way.Refused 12 0)) op id authority place mark offered l store ≡ refuses a
+      by-check (refused n p) = ap (λ (m : ℕ). nowhere m (notAccepted n p)) e
+      by-check (given n) = ap (λ (m : ℕ). nowhere m (notAccepted 12 0)) e
+      by-check nothing = ap (λ (m : ℕ). nowhere m (notAccepted 12 0)) e
+
+  long-store : (l : List Symbol) → length l ≡ length table → 128 < length l →
+      storeOf op id authority place mark offered l store ≡ store
+  unfolding storeOf
+  long-store l e h =
+      ap (λ (w : Way). outcomeBy w op id authority place mark offered l store .store) (long-way l h) ∙ by-check (offeredCheck op offered)
+    where
+      by-check : (a : paper.Answer ℕ) → outcomeBy (unless a (way.Refused 12 0)) op id authority place mark offered l store .store ≡ store
+      by-check (refused n p) = refl
+      by-check (given n) = refl
+      by-check nothing = refl
+
+  -- what the core says of the columns, it says of the table
+  pub change-same : changeOf op id authority place mark offered (readFrom (gathered table) 0 (length table)) store
+      ≡ changeOf op id authority place mark offered table store
+  change-same =
+      swapped table (λ l. changeOf op id authority place mark offered l store) (refuses (offeredCheck op offered)) long-change
+
+  pub store-same : storeOf op id authority place mark offered (readFrom (gathered table) 0 (length table)) store
+      ≡ storeOf op id authority place mark offered table store
+  store-same = swapped table (λ l. storeOf op id authority place mark offered l store) store long-store
+
+  -- and that is the outcome
+  abbrev by : Way → Change
+  by w = changeBy w op id authority place mark offered table store
+
+  answer-by : (w : Way) → by w .answer ≡ outcomeBy w op id authority place mark offered table store .answer
+  answer-by (way.Refused n p) = refl
+  answer-by (way.Found k) = refl
+  answer-by (way.Free k) = refl
+
+  pub answer-is : (r : Change) → r ≡ changeOf op id authority place mark offered table store →
+      r .answer ≡ outcome op id authority place mark offered table store .answer
+  unfolding changeOf outcome
+  answer-is r e = ap (λ (c : Change). c .answer) e ∙ answer-by (wayOf op id offered table store)
+
+  pub store-is : storeOf op id authority place mark offered table store ≡ outcome op id authority place mark offered table store .store
+  unfolding storeOf outcome
+  store-is = refl
+
+  inside-or : (w : Way) → wayOf op id offered table store ≡ w → T (leb (length table) (by w .slot)) →
+      table ≡ outcomeBy w op id authority place mark offered table store .table
+  inside-or (way.Refused n p) e out = refl
+  inside-or (way.Found k) e out =
+      absurd (omega (arith, leb→le (length table) k out, found-in op id offered table store k e .below))
+  inside-or (way.Free k) e out =
+      absurd (omega (arith, leb→le (length table) k out, new-in op id offered table store k e .below))
+
+  pub table-kept : (r : Change) → r ≡ changeOf op id authority place mark offered table store → T (leb (length table) (r .slot)) →
+      table ≡ outcome op id authority place mark offered table store .table
+  unfolding changeOf outcome
+  table-kept r e out =
+      inside-or (wayOf op id offered table store) refl (subst (λ (c : Change). T (leb (length table) (c .slot))) e out)
+
+  set-by : (w : Way) → T (not (leb (length table) (by w .slot))) →
+      set table (by w .slot) (by w .symbol) ≡ outcomeBy w op id authority place mark offered table store .table
+  set-by (way.Refused n p) inside = absurd (omega (arith, nleb→lt (length table) (length table) inside))
+  set-by (way.Found k) inside = refl
+  set-by (way.Free k) inside = refl
+
+  pub table-set : (r : Change) → r ≡ changeOf op id authority place mark offered table store → T (not (leb (length table) (r .slot))) →
+      set table (r .slot) (r .symbol) ≡ outcome op id authority place mark offered table store .table
+  unfolding changeOf outcome
+  table-set r e inside =
+      ap (λ (c : Change). set table (c .slot) (c .symbol)) e
+      ∙ set-by (wayOf op id offered table store) (subst (λ (c : Change). T (not (leb (length table) (c .slot)))) e inside)

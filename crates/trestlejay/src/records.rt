@@ -1,0 +1,156 @@
+use answers::Answer;
+use symbols::Operation;
+use symbols::change_symbol;
+use symbols::get_symbol;
+use symbols::put_nothing;
+use tables::Symbol;
+ghost use mathlib.Core.Path.{_≡_};
+ghost use mathlib.Core.List.{[]};
+ghost use Rattle.updates.specs.Lone as rules;
+ghost use Rattle.symbols.specs.Changes as changes;
+ghost use Rattle.symbols.specs.Gets as gets;
+
+#[no_mangle]
+pub extern "C" fn tj_update_symbol(
+    symbol: &mut Symbol,
+    words: &mut [u64],
+    id: u32,
+    authority: bool,
+    place: u64,
+    offered: &[u64],
+) -> Answer
+    ensures { λ r. ⌜ (r ≡ rules.loneUpdated (now (symbol .entry)) (now (words .entry)) id authority place (now (offered .entry)) .answer)
+        × (now (symbol .exit) ≡ rules.loneUpdated (now (symbol .entry)) (now (words .entry)) id authority place (now (offered .entry)) .symbol)
+        × (now (words .exit) ≡ rules.loneWordsAfter (now (symbol .entry)) (now (words .entry)) authority (now (offered .entry))) ⌝ }
+{
+    updates::do_update_symbol(symbol, words, id, authority, place, offered)
+}
+
+#[no_mangle]
+pub extern "C" fn tj_put_nothing(
+    table: &[Symbol],
+    store: &[u64],
+    id: u32,
+    authority: bool,
+    place: u64,
+) -> Answer
+    ensures { λ r. ⌜ r ≡ gets.nothingPut (now (table .entry)) (now (store .entry)) ⌝ }
+{
+    put_nothing(table, store)
+}
+
+#[no_mangle]
+pub extern "C" fn tj_put_type(
+    table: &mut [Symbol],
+    store: &mut [u64],
+    id: u32,
+    authority: bool,
+    place: u64,
+    offered: &[u64],
+) -> Answer
+    ensures { λ r. ⌜ (r ≡ changes.outcome Operation.PutType id authority place 0 (now (offered .entry)) (now (table .entry)) (now (store .entry)) .answer)
+        × (now (table .exit) ≡ changes.outcome Operation.PutType id authority place 0 (now (offered .entry)) (now (table .entry)) (now (store .entry)) .table)
+        × (now (store .exit) ≡ changes.outcome Operation.PutType id authority place 0 (now (offered .entry)) (now (table .entry)) (now (store .entry)) .store) ⌝ }
+{
+    change_symbol(
+        table,
+        store,
+        Operation::PutType,
+        id,
+        authority,
+        place,
+        0,
+        offered,
+    )
+}
+
+#[no_mangle]
+pub extern "C" fn tj_put_poison(
+    table: &mut [Symbol],
+    store: &mut [u64],
+    id: u32,
+    authority: bool,
+    place: u64,
+    mark: u64,
+) -> Answer
+    ensures { λ r. ⌜ (r ≡ changes.outcome Operation.PutPoison id authority place mark [] (now (table .entry)) (now (store .entry)) .answer)
+        × (now (table .exit) ≡ changes.outcome Operation.PutPoison id authority place mark [] (now (table .entry)) (now (store .entry)) .table)
+        × (now (store .exit) ≡ changes.outcome Operation.PutPoison id authority place mark [] (now (table .entry)) (now (store .entry)) .store) ⌝ }
+{
+    let none = [0u64; 1];
+    change_symbol(
+        table,
+        store,
+        Operation::PutPoison,
+        id,
+        authority,
+        place,
+        mark,
+        &none[..0],
+    )
+}
+
+#[no_mangle]
+pub extern "C" fn tj_forward_declare_type(
+    table: &mut [Symbol],
+    store: &mut [u64],
+    id: u32,
+    authority: bool,
+    place: u64,
+    offered: &[u64],
+) -> Answer
+    ensures { λ r. ⌜ (r ≡ changes.outcome Operation.ForwardType id authority place 0 (now (offered .entry)) (now (table .entry)) (now (store .entry)) .answer)
+        × (now (table .exit) ≡ changes.outcome Operation.ForwardType id authority place 0 (now (offered .entry)) (now (table .entry)) (now (store .entry)) .table)
+        × (now (store .exit) ≡ changes.outcome Operation.ForwardType id authority place 0 (now (offered .entry)) (now (table .entry)) (now (store .entry)) .store) ⌝ }
+{
+    change_symbol(
+        table,
+        store,
+        Operation::ForwardType,
+        id,
+        authority,
+        place,
+        0,
+        offered,
+    )
+}
+
+#[no_mangle]
+pub extern "C" fn tj_forward_declare_poison(
+    table: &mut [Symbol],
+    store: &mut [u64],
+    id: u32,
+    authority: bool,
+    place: u64,
+    mark: u64,
+) -> Answer
+    ensures { λ r. ⌜ (r ≡ changes.outcome Operation.ForwardPoison id authority place mark [] (now (table .entry)) (now (store .entry)) .answer)
+        × (now (table .exit) ≡ changes.outcome Operation.ForwardPoison id authority place mark [] (now (table .entry)) (now (store .entry)) .table)
+        × (now (store .exit) ≡ changes.outcome Operation.ForwardPoison id authority place mark [] (now (table .entry)) (now (store .entry)) .store) ⌝ }
+{
+    let none = [0u64; 1];
+    change_symbol(
+        table,
+        store,
+        Operation::ForwardPoison,
+        id,
+        authority,
+        place,
+        mark,
+        &none[..0],
+    )
+}
+
+#[no_mangle]
+pub extern "C" fn tj_get_symbol(
+    table: &[Symbol],
+    store: &[u64],
+    id: u32,
+    authority: bool,
+    found: &mut u64,
+) -> Answer
+    ensures { λ r. ⌜ (r ≡ gets.told (gets.got id authority (now (table .entry)) (now (store .entry))))
+        × (now (found .exit) ≡ gets.foundAfter (gets.got id authority (now (table .entry)) (now (store .entry))) (now (found .entry))) ⌝ }
+{
+    get_symbol(table, store, id, authority, found)
+}

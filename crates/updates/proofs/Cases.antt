@@ -1,0 +1,28 @@
+-- What is shown of each outcome that the lines have is shown of the update.
+-- Assumes nothing.
+use mathlib.Core.Bool.{Bool}
+use mathlib.Core.List.{List}
+use Prim.Native.Nat.{ℕ}
+use Rattle.buffers.specs.Written.{written}
+use Rattle.tables.specs.declared.symbol.Symbol.{Symbol}
+use Rattle.answers.specs.declared.flat.Answer.{Answer}
+use Rattle.answers.specs.Flat.{accepted, notAccepted}
+use Rattle.updates.specs.Updates.{lineAt, answerBy, typed, recordBy, wordsBy, updated, wordsAfter}
+use Rattle.updates.specs.declared.lines.Line.{Line}
+use Rattle.updates.specs.declared.lines.Line.the-variants as line
+
+module _ (s : Symbol) (ws : List ℕ) (id : ℕ) (authority : Bool) (place : ℕ) (offered : List ℕ) (P : Symbol → List ℕ → Answer → Type 0)
+    (kept : P s ws (accepted 0)) (ill : P s ws (notAccepted 4 0))
+    (one : P (typed (s .id) (s .authority) (s .place) offered) (written offered ws) (accepted 1))
+    (both : P (typed id authority place offered) (written offered ws) (accepted 2)) (conflict : P s ws (notAccepted 7 0)) where
+  by-line : (l : Line) → P (recordBy l s id authority place offered) (wordsBy l offered ws) (answerBy l)
+  by-line line.Poisoned = kept
+  by-line line.IllFormed = ill
+  by-line line.Kept = kept
+  by-line line.TypeReplaced = one
+  by-line line.BothReplaced = both
+  by-line line.Conflicting = conflict
+
+  pub by-lines : P (updated s ws id authority place offered .symbol) (wordsAfter s ws authority offered) (updated s ws id authority place offered .answer)
+  unfolding updated wordsAfter
+  by-lines = by-line (lineAt s ws authority offered)
