@@ -9,7 +9,11 @@ mod caught;
 #[cfg(face)]
 mod compare;
 #[cfg(face)]
+mod disorder;
+#[cfg(face)]
 mod face;
+#[cfg(face)]
+mod lent;
 // Its fields are there for the original's text to fill in.
 #[allow(dead_code)]
 mod prelude;
@@ -19,6 +23,7 @@ mod records;
 #[cfg(face)]
 mod small;
 mod smoke;
+mod symbols;
 mod types;
 mod words;
 
