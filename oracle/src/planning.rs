@@ -187,7 +187,9 @@ pub fn judge_plan(asked: &Asked) -> Result<Planned, Refusal> {
         plan(&known, steps, &target, depth, rounds, &members.records)
     };
     let made = match made(&steps) {
-        Err(11) => Err(without_type(&steps, members, |steps| made(steps) == Err(11))),
+        Err(11) => Err(without_type(&steps, members, |steps| {
+            made(steps) == Err(11)
+        })),
         made => made,
     };
     let made = in_words(&made.map_err(|number| (number, 0))?);
@@ -284,6 +286,9 @@ pub fn takes_in_order(asked: &Asked, made: &Planned) -> bool {
     };
     let own: Vec<Step> = made.steps.chunks(4).map(unmarked).collect();
     let own = own.iter().filter(|step| step[0] <= MEMBER);
-    own.copied()
-        .eq(asked.steps.chunks(4).map(unmarked).take(made.taken as usize))
+    own.copied().eq(asked
+        .steps
+        .chunks(4)
+        .map(unmarked)
+        .take(made.taken as usize))
 }

@@ -33,7 +33,10 @@ fn count(row: &mut Row, expected: &Told, found: &Result<Told, String>, asked: im
     }
     if found.as_ref() != Ok(expected) {
         fail(row, || {
-            format!("  the Rust  {expected:?}\n  ours      {found:?}\n{}", asked())
+            format!(
+                "  the Rust  {expected:?}\n  ours      {found:?}\n{}",
+                asked()
+            )
         });
     }
 }
@@ -56,7 +59,10 @@ fn told(asked: &Asked) -> String {
 }
 
 fn table_told(members: &Members) -> String {
-    format!("table     {:?}\n  store     {:?}", members.table, members.store)
+    format!(
+        "table     {:?}\n  store     {:?}",
+        members.table, members.store
+    )
 }
 
 impl Plans {
@@ -108,7 +114,9 @@ impl Plans {
         let found = plan_face::walk(known, steps, address, members, room);
         count(&mut self.walk, &expected, &found, || {
             let table = table_told(members);
-            format!("  known     {known:?}\n  steps     {steps:?}\n  address   {address}\n  {table}")
+            format!(
+                "  known     {known:?}\n  steps     {steps:?}\n  address   {address}\n  {table}"
+            )
         });
         judged
     }
@@ -139,6 +147,7 @@ pub fn compare(scale: u64, random: &mut Random) -> Vec<Row> {
         excepted: 0,
     };
     small(&mut plans);
+    small_walks(&mut plans);
     for _ in 0..scale * 60_000 {
         along(&mut plans, &journey(random), random);
     }
@@ -277,10 +286,18 @@ fn small(plans: &mut Plans) {
                 let few: &[u64] = if place == 0 { &[0, 1, 2, 3, 64] } else { &[64] };
                 ask_depths(plans, known, steps, &words(target), few, &members);
             }
+        }
+    }
+}
+
+/// Every small type along no, one and two steps.
+fn small_walks(plans: &mut Plans) {
+    let (types, members) = (small_types(), few_members());
+    for known in &types {
+        for steps in &small_steps() {
             for address in [false, true] {
-                let judged = plans.walk(known, steps, address, &members, 0);
-                if judged.is_ok() {
-                    plans.walk(known, steps, address, &members, 3).ok();
+                for short in [0, 2, 3] {
+                    plans.walk(known, steps, address, &members, short).ok();
                 }
             }
         }

@@ -15,28 +15,18 @@ pub extern "C" fn tj_autoderef<'a>(
     known: &'a [u64],
     asked: &[u64],
     target: &'a [u64],
-    address_depth: u8,
+    level: u8,
     rounds: u64,
     table: &[Symbol],
     store: &'a [u64],
     steps: &mut [u64],
     ty: &mut [u64],
 ) -> Report
-    ensures { λ r. ⌜ (r ≡ report.told (answers.planAnswer (now (table .entry)) (now (store .entry)) (now (known .entry)) (now (asked .entry)) (now (target .entry)) address_depth rounds (length (now (steps .entry))) (length (now (ty .entry)))))
-        × (now (steps .exit) ≡ report.stepsOver (answers.planAnswer (now (table .entry)) (now (store .entry)) (now (known .entry)) (now (asked .entry)) (now (target .entry)) address_depth rounds (length (now (steps .entry))) (length (now (ty .entry)))) (now (steps .entry)))
-        × (now (ty .exit) ≡ report.typeOver (answers.planAnswer (now (table .entry)) (now (store .entry)) (now (known .entry)) (now (asked .entry)) (now (target .entry)) address_depth rounds (length (now (steps .entry))) (length (now (ty .entry)))) (now (ty .entry))) ⌝ }
+    ensures { λ r. ⌜ (r ≡ report.told (answers.planAnswer (now (table .entry)) (now (store .entry)) (now (known .entry)) (now (asked .entry)) (now (target .entry)) level rounds (length (now (steps .entry))) (length (now (ty .entry)))))
+        × (now (steps .exit) ≡ report.stepsOver (answers.planAnswer (now (table .entry)) (now (store .entry)) (now (known .entry)) (now (asked .entry)) (now (target .entry)) level rounds (length (now (steps .entry))) (length (now (ty .entry)))) (now (steps .entry)))
+        × (now (ty .exit) ≡ report.typeOver (answers.planAnswer (now (table .entry)) (now (store .entry)) (now (known .entry)) (now (asked .entry)) (now (target .entry)) level rounds (length (now (steps .entry))) (length (now (ty .entry)))) (now (ty .entry))) ⌝ }
 {
-    autoderef(
-        known,
-        asked,
-        target,
-        address_depth,
-        rounds,
-        table,
-        store,
-        steps,
-        ty,
-    )
+    autoderef(known, asked, target, level, rounds, table, store, steps, ty)
 }
 
 #[no_mangle]
