@@ -1,11 +1,12 @@
-//! Tables and lone symbols that are not in order, in each way that document 01 names: every operation
-//! is refused with 12, and nothing changes.
+//! Tables and lone symbols that are spoiled in each way that document 01's "in order" names: every
+//! operation is refused with 12, and nothing changes. Some edits spoil nothing, those of a field that
+//! order does not ask for, and are judged as any table in order.
 
 use crate::lent::Lent;
 use crate::random::Random;
 use crate::records::{room, Pool, Rows};
 use crate::small::spoiled_chains;
-use crate::symbols::{in_order, taken, Asked, Judge, Operation, Symbol, PART};
+use crate::symbols::{taken, Asked, Judge, Operation, Symbol, PART};
 use crate::words::check;
 
 const STATES: [u64; 5] = [3, 4, 1 << 32, (1 << 32) + 1, u64::MAX];
@@ -155,8 +156,6 @@ fn spoiled(lent: &Lent, random: &mut Random, bad: &[&[u64]]) -> Vec<(Vec<Symbol>
             });
         }
     }
-    // What is still in order was no spoiling: an edit of a free or poisoned record.
-    all.retain(|(table, store)| !in_order(table, store));
     all
 }
 

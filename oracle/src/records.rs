@@ -54,7 +54,7 @@ const NAMES: [&str; 7] = [
     "get_symbol",
 ];
 
-/// A row for each function, of what is in order or of what is not.
+/// A row for each function, of tables in order or of spoiled ones.
 pub struct Rows(Vec<Row>);
 
 impl Rows {
@@ -146,7 +146,7 @@ pub fn compare(scale: u64, random: &mut Random) -> Vec<Row> {
         let records = random.below(6);
         play(&mut rows, records, random);
     }
-    let mut spoiled = Rows::new(", not in order");
+    let mut spoiled = Rows::new(", spoiled");
     disorder::compare(&mut spoiled, scale, random);
     rows.0.extend(spoiled.0);
     rows.0
