@@ -55,14 +55,14 @@ pub fn compare(rows: &mut Rows, scale: u64, random: &mut Random) {
             ask_all(rows, &pool, lent.table(), lent.store());
         }
     }
-    for _ in 0..scale * 1_000 {
+    for _ in 0..scale * 100 {
         let pool = Pool::new(random);
         let records = 1 + random.below(128);
         let taken = random.below(records + 1);
         let lent = pool.table(random, records, taken);
         let all = spoiled(&lent, random, &bad);
-        let (table, store) = &all[random.below(all.len())];
-        for _ in 0..10 {
+        for _ in 0..200 {
+            let (table, store) = &all[random.below(all.len())];
             let asked = pool.asked(random, records);
             ask(rows, table, store, &asked);
         }
