@@ -1,11 +1,12 @@
-//! Tables and lone symbols that are not in order, in each way that document 01 names: every operation
-//! is refused with 12, and nothing changes.
+//! Tables and lone symbols that are spoiled in each way that document 01's "in order" names: every
+//! operation is refused with 12, and nothing changes. Some edits spoil nothing, those of a field that
+//! order does not ask for, and are judged as any table in order.
 
 use crate::lent::Lent;
 use crate::random::Random;
 use crate::records::{room, Pool, Rows};
 use crate::small::spoiled_chains;
-use crate::symbols::{in_order, taken, Asked, Judge, Operation, Symbol, PART};
+use crate::symbols::{taken, Asked, Judge, Operation, Symbol, PART};
 use crate::words::check;
 
 const STATES: [u64; 5] = [3, 4, 1 << 32, (1 << 32) + 1, u64::MAX];
@@ -54,15 +55,15 @@ pub fn compare(rows: &mut Rows, scale: u64, random: &mut Random) {
             ask_all(rows, &pool, lent.table(), lent.store());
         }
     }
-    for _ in 0..scale * 1_000 {
+    for _ in 0..scale * 100 {
         let pool = Pool::new(random);
         let records = 1 + random.below(128);
         let taken = random.below(records + 1);
         let lent = pool.table(random, records, taken);
         let all = spoiled(&lent, random, &bad);
-        let (table, store) = &all[random.below(all.len())];
-        for _ in 0..10 {
-            let asked = pool.asked(random, records + 2);
+        for _ in 0..200 {
+            let (table, store) = &all[random.below(all.len())];
+            let asked = pool.asked(random, records);
             ask(rows, table, store, &asked);
         }
     }
@@ -76,7 +77,13 @@ fn ask(rows: &mut Rows, table: &[Symbol], store: &[u64], asked: &Asked) {
 /// Every operation, about the first id, the last and one that is nowhere, with and without authority.
 fn ask_all(rows: &mut Rows, pool: &Pool, table: &[Symbol], store: &[u64]) {
     use Operation::*;
-    let mut all = vec![PutNothing, PutPoison(0), PutPoison(7), DeclarePoison(7), Get];
+    let mut all = vec![
+        PutNothing,
+        PutPoison(0),
+        PutPoison(7),
+        DeclarePoison(7),
+        Get,
+    ];
     for offered in OFFERED {
         all.push(PutType(offered.to_vec()));
         all.push(DeclareType(offered.to_vec()));
@@ -104,12 +111,10 @@ fn spoiled(lent: &Lent, random: &mut Random, bad: &[&[u64]]) -> Vec<(Vec<Symbol>
     let slots: Vec<usize> = (0..records).filter(some).take(12).collect();
     let mut all = Vec::new();
 
-    for size in [0, 1, 47, 49] {
-        let near = PART * records + size;
-        all.push((table.to_vec(), room(size)));
-        all.push((table.to_vec(), [store, &room(size)].concat()));
-        all.push((table.to_vec(), [store, store].concat()[..near.saturating_sub(48)].to_vec()));
-        all.push((table.to_vec(), store[..store.len().saturating_sub(size)].to_vec()));
+    let exact = store.len();
+    let longer = [store, &room(PART)].concat();
+    for size in [0, 1, exact.max(1) - 1, exact + 1, exact + PART] {
+        all.push((table.to_vec(), longer[..size].to_vec()));
     }
     let mut edit = |slot: usize, change: &dyn Fn(&mut Symbol, &mut [u64])| {
         let (mut table, mut store) = (table.to_vec(), store.to_vec());
@@ -129,7 +134,9 @@ fn spoiled(lent: &Lent, random: &mut Random, bad: &[&[u64]]) -> Vec<(Vec<Symbol>
         });
         // An id that is there already: of the first, the last or any taken one.
         for other in [0, taken.max(1) - 1, random.below(taken + 1)] {
-            edit(slot, &|symbol, _| symbol.id = table[other.min(records - 1)].id);
+            edit(slot, &|symbol, _| {
+                symbol.id = table[other.min(records - 1)].id
+            });
         }
         for count in COUNTS {
             edit(slot, &|symbol, _| symbol.layers = count);
@@ -149,8 +156,6 @@ fn spoiled(lent: &Lent, random: &mut Random, bad: &[&[u64]]) -> Vec<(Vec<Symbol>
             });
         }
     }
-    // What is still in order was no spoiling: an edit of a free or poisoned record.
-    all.retain(|(table, store)| !in_order(table, store));
     all
 }
 

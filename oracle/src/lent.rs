@@ -147,9 +147,7 @@ impl Lent {
                 DeclareType(_) => {
                     tj_forward_declare_type(table, nt, store, ns, id, authority, place, t, n)
                 }
-                PutPoison(mark) => {
-                    tj_put_poison(table, nt, store, ns, id, authority, place, mark)
-                }
+                PutPoison(mark) => tj_put_poison(table, nt, store, ns, id, authority, place, mark),
                 DeclarePoison(mark) => {
                     tj_forward_declare_poison(table, nt, store, ns, id, authority, place, mark)
                 }

@@ -28,6 +28,7 @@ mod prelude;
 mod random;
 #[cfg(face)]
 mod records;
+mod script;
 #[cfg(face)]
 mod small;
 mod smoke;
@@ -40,7 +41,7 @@ use std::io::Write;
 use std::process::exit;
 
 const USAGE: &str =
-    "oracle smoke | oracle cases | oracle answers COUNT SEED | oracle compare SCALE SEED";
+    "oracle smoke | oracle cases | oracle script FILE | oracle answers COUNT SEED | oracle compare SCALE SEED";
 
 fn main() {
     let words: Vec<String> = env::args().skip(1).collect();
@@ -48,6 +49,10 @@ fn main() {
     match words[..] {
         ["smoke"] => verdict(smoke::smoke()),
         ["cases"] => write(&cases::cases()),
+        ["script", file] => match std::fs::read_to_string(file) {
+            Ok(text) => write(&script::script(&text)),
+            Err(error) => fail(&format!("{file}: {error}")),
+        },
         ["answers", count, seed] => {
             write(&answers::answers(number(count) as usize, number(seed)));
         }

@@ -7,8 +7,8 @@ use crate::lent::Lent;
 use crate::random::Random;
 use crate::small::{small_types, types_of_three};
 use crate::symbols::{update_alone, Asked, Judge, Operation, Symbol, Told, FREE, PART};
-use crate::types::{damaged, good_type, pair, relative, words};
-use crate::words::Layer;
+use crate::types::{coerced, damaged, good_type, likened, pair, relative, words};
+use crate::words::{decode, Layer, ARRAY, ARRAYLIKE, NAMED, SLICE};
 
 /// The cases of one function.
 #[derive(Default)]
@@ -54,7 +54,7 @@ const NAMES: [&str; 7] = [
     "get_symbol",
 ];
 
-/// A row for each function, of what is in order or of what is not.
+/// A row for each function, of tables in order or of spoiled ones.
 pub struct Rows(Vec<Row>);
 
 impl Rows {
@@ -96,8 +96,9 @@ impl Rows {
         let (mut after, mut words) = (*symbol, room.to_vec());
         let expected = update_alone(&mut after, &mut words, name, offered);
         let found = lent.update(name, offered);
-        let tell =
-            |rest| format!("  asked     {symbol:?} {room:?}\n  by        {name:?} {offered:?}\n{rest}");
+        let tell = |rest| {
+            format!("  asked     {symbol:?} {room:?}\n  by        {name:?} {offered:?}\n{rest}")
+        };
         let differs = differs(&expected, &found, &[after], &words, &lent).map(tell);
         self.0[0].count(&expected, differs);
     }
@@ -145,7 +146,7 @@ pub fn compare(scale: u64, random: &mut Random) -> Vec<Row> {
         let records = random.below(6);
         play(&mut rows, records, random);
     }
-    let mut spoiled = Rows::new(", not in order");
+    let mut spoiled = Rows::new(", spoiled");
     disorder::compare(&mut spoiled, scale, random);
     rows.0.extend(spoiled.0);
     rows.0
@@ -211,26 +212,42 @@ fn alone(rows: &mut Rows, scale: u64, random: &mut Random) {
     }
 }
 
-/// The ids and the types that one table and the operations on it share.
+/// The ids and the types that one table and the operations on it share. The types are families of
+/// relatives, and an id has one family, so that updates are often accepted.
 pub struct Pool {
     first: u32,
     apart: u32,
-    types: Vec<Vec<Layer>>,
+    families: [Vec<Vec<Layer>>; 2],
+}
+
+/// A well-formed type, one that it is declared as or a concretization of, one that it coerces into,
+/// and one that is close.
+fn family(random: &mut Random) -> Vec<Vec<Layer>> {
+    let mut one = good_type(random, 16);
+    while !decode(&one).is_wellformed() {
+        one = good_type(random, 16);
+    }
+    let mut less = likened(random, &one);
+    if random.once_in(2) && matches!(one[0][0], ARRAY | NAMED | SLICE) {
+        less = one.clone();
+        less[0] = [ARRAYLIKE, 0, 0];
+    }
+    let mut all = vec![one.clone(), less, coerced(random, &one)];
+    all.push(relative(random, &one));
+    for layers in &mut all {
+        layers.drain(..layers.len().saturating_sub(16));
+    }
+    all
 }
 
 impl Pool {
     pub fn new(random: &mut Random) -> Self {
         let any = random.next() as u32;
-        let mut types = Vec::new();
-        for _ in 0..3 {
-            let (a, b) = pair(random, 16);
-            types.extend([a, b]);
-        }
         Pool {
             first: random.pick(&[0, 1, u32::MAX - 2, any]),
             // Odd, so that no id comes again.
             apart: random.pick(&[1, u32::MAX, 0x0101_0101, any | 1]),
-            types,
+            families: [family(random), family(random)],
         }
     }
 
@@ -239,38 +256,43 @@ impl Pool {
         self.first.wrapping_add(step)
     }
 
-    fn layers(&self, random: &mut Random) -> Vec<Layer> {
-        let one = random.below(self.types.len());
-        match random.below(6) {
+    /// A type for this id; those that come later in the family are the less concrete ones.
+    fn layers(&self, random: &mut Random, number: usize, first: usize) -> Vec<Layer> {
+        let family = &self.families[number % 2];
+        match random.below(12) {
             0 => good_type(random, 16),
-            1 => relative(random, &self.types[one]),
-            _ => self.types[one].clone(),
+            1 => self.families[(number + 1) % 2][0].clone(),
+            _ => family[first + random.below(family.len() - first)].clone(),
         }
     }
 
-    fn offered(&self, random: &mut Random) -> Vec<u64> {
-        let layers = self.layers(random);
-        match random.once_in(10) {
+    fn offered(&self, random: &mut Random, number: usize, first: usize) -> Vec<u64> {
+        let layers = self.layers(random, number, first);
+        match random.once_in(12) {
             true => damaged(random, &layers),
             false => words(&layers),
         }
     }
 
-    /// Any operation, about one of so many ids.
+    /// Any operation, mostly about one of so many ids.
     pub fn asked(&self, random: &mut Random, ids: usize) -> Asked {
         use Operation::*;
+        let number = match random.once_in(8) {
+            true => ids + random.below(2),
+            false => random.below(ids.max(1)),
+        };
         let mark = mark(random);
-        let operation = match random.below(16) {
+        let operation = match random.below(20) {
             0 => PutNothing,
             1 => PutPoison(mark),
             2 => DeclarePoison(mark),
-            3 | 4 => Get,
-            5 | 6 => DeclareType(self.offered(random)),
-            _ => PutType(self.offered(random)),
+            3 => Get,
+            4..=8 => DeclareType(self.offered(random, number, 1)),
+            _ => PutType(self.offered(random, number, 0)),
         };
         Asked {
             operation,
-            id: self.id(random.below(ids)),
+            id: self.id(number),
             authority: random.once_in(2),
             place: place(random),
         }
@@ -296,7 +318,7 @@ impl Pool {
             } else if random.once_in(4) {
                 symbol.state = 2;
             } else {
-                let stored = words(&self.layers(random));
+                let stored = words(&self.layers(random, slot, 1));
                 symbol.state = 1;
                 symbol.layers = stored.len() as u64 / 3;
                 store[PART * slot..PART * slot + stored.len()].copy_from_slice(&stored);
@@ -325,9 +347,8 @@ fn play(rows: &mut Rows, records: usize, random: &mut Random) {
     let taken = random.pick(&[0, some, records]);
     let mut lent = pool.table(random, records, taken);
     let mut judge = Judge::new(lent.table().to_vec(), lent.store().to_vec());
-    let ids = records + 1 + records / 4;
     for _ in 0..=random.below(200) {
-        let asked = pool.asked(random, ids);
+        let asked = pool.asked(random, records);
         if !rows.ask(&mut judge, &mut lent, &asked) {
             return;
         }
