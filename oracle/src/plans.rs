@@ -153,6 +153,7 @@ pub fn compare(scale: u64, random: &mut Random) -> Vec<Row> {
     };
     small(&mut plans);
     small_walks(&mut plans);
+    long(&mut plans);
     for _ in 0..scale * 60_000 {
         along(&mut plans, &journey(random), random);
     }
@@ -301,6 +302,35 @@ fn small(plans: &mut Plans) {
                 let refusal = ask_depths(plans, known, steps, &words(target), &[64], &members);
                 if matches!(refusal, Err((4 | 8 | 11, _))) {
                     break;
+                }
+            }
+        }
+    }
+}
+
+/// Pointers to Arrays, 15 and 16 layers in all, at every depth that one of them can have: an address
+/// of 16 layers is over the limit.
+fn long(plans: &mut Plans) {
+    let members = few_members();
+    for layers in [15, 16] {
+        for pointers in 0..layers {
+            let mut known = vec![[POINTER, 0, 0]; pointers];
+            known.resize(layers - 1, [ARRAY, 0, 3]);
+            known.push(INT32);
+            let mut slice = known.clone();
+            slice[0] = [SLICE_POINTER, 0, 0];
+            for target in [vec![INT32], known.clone(), slice] {
+                for depth in 0..=17 {
+                    let asked = Asked {
+                        known: &words(&known),
+                        steps: &[],
+                        target: &words(&target),
+                        depth,
+                        rounds: 64,
+                        members: &members,
+                    };
+                    let judged = plans.ask(&asked);
+                    plans.ask_tightly(&asked, &judged);
                 }
             }
         }
