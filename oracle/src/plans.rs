@@ -154,7 +154,7 @@ pub fn compare(scale: u64, random: &mut Random) -> Vec<Row> {
     small(&mut plans);
     small_walks(&mut plans);
     long(&mut plans);
-    for _ in 0..scale * 60_000 {
+    for _ in 0..scale * 100_000 {
         along(&mut plans, &journey(random), random);
     }
     println!(

@@ -423,4 +423,30 @@ fn plans(smoke: &mut Smoke) {
         plan(&structure, &[MEMBER], &int, 0, 0, &member),
         made(&[], 0, &structure),
     );
+
+    // docs/DIFFERENCES.md: the number of rounds, and where both agree.
+    let deep = (0..15).fold(structure.clone(), |inner, _| pointer(&inner));
+    let member = [record(2, true, Ok(deep.clone()))];
+    let taken = |members: usize, rounds| {
+        let asked = vec![MEMBER; members];
+        let made = plan(&deep, &asked, &structure, 0, rounds, &member);
+        made.map(|made| made.taken)
+    };
+    smoke.same("five members, 64 rounds", taken(5, 64), Ok(4));
+    smoke.same("five members, 254 rounds", taken(5, 254), Ok(5));
+    smoke.same("sixteen members, 254 rounds", taken(16, 254), Ok(15));
+    smoke.same(
+        "a view of a pointer",
+        go(&view(&pointer(&int)), &[], &pointer(&int), 0, 64),
+        made(&[], 0, &int),
+    );
+    let void = of(&[0, 0, 0]);
+    let mut address = made(&[], 0, &pointer(&void)).unwrap();
+    address.address = true;
+    smoke.same("void", go(&void, &[], &int, 1, 64), Ok(address));
+    smoke.same(
+        "a slice pointer at depth 0",
+        go(&slice_pointer, &[], &slice_pointer, 0, 64),
+        Err(10),
+    );
 }
