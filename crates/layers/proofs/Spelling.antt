@@ -2,11 +2,12 @@
 -- Assumes nothing.
 use mathlib.Core.Path.{_≡_, refl, ap}
 use mathlib.Core.List.{List, [], _∷_, _++_}
-use Prim.Native.Nat.{ℕ, _*_, _%_}
+use Prim.Native.Nat.{ℕ, zero, suc, _+_, _*_, _%_}
 use native.Mathlib.Omega.{arith}
-use lib.ListN.{length}
-use Rattle.layers.specs.Layers.{Layer, layers}
-use Rattle.externs.specs.Outcome.{spelled}
+use lib.ListN.{length, drop}
+use lib.Seq.{drop-drop, drop-nil}
+use Rattle.layers.specs.Layers.{Layer, layer, layers, inside, spelled}
+use Rattle.layers.proofs.Words.{inner-layers}
 
 pub spelled-length : (a : List Layer) → length (spelled a) ≡ 3 * length a
 unfolding spelled
@@ -29,3 +30,15 @@ pub layers-spelled : (a : List Layer) → layers (spelled a) ≡ a
 unfolding spelled layers
 layers-spelled [] = refl
 layers-spelled (x ∷ a) = ap (λ (l : List Layer). x ∷ l) (layers-spelled a)
+
+drop-inside : (n : ℕ) (a : List Layer) → drop n (inside a) ≡ drop (suc n) a
+unfolding inside
+drop-inside n [] = drop-nil n
+drop-inside n (x ∷ a) = refl
+
+-- the layers of the words from a layer on
+pub layers-drop : (n : ℕ) (ws : List ℕ) → layers (drop (n * 3) ws) ≡ drop n (layers ws)
+layers-drop zero ws = refl
+layers-drop (suc n) ws =
+    let e : suc n * 3 ≡ 3 + n * 3 = omega arith in
+    rw (e, ← drop-drop (n * 3) 3 ws, layers-drop n (drop 3 ws), inner-layers ws) (drop-inside n (layers ws))
