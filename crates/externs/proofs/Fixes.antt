@@ -13,10 +13,9 @@ use Rattle.kinds.specs.Kind as kind
 use Rattle.kinds.specs.Words.{words}
 use Rattle.layers.specs.Layers.{Layer, layers, outer, inside, spelled}
 use Rattle.layers.specs.Answer.{Answer, given, nothing, refused, ofChecked}
-use Rattle.layers.specs.Check.{badCount, checkOf}
+use Rattle.layers.specs.Check.{checkOf}
 use Rattle.layers.specs.declared.answers.Checked.{Checked}
 use Rattle.layers.specs.declared.answers.Checked.the-variants.{Good, Refused}
-use Rattle.layers.proofs.Checks.{start}
 use Rattle.layers.proofs.Words.{inner-layers}
 use Rattle.forms.specs.Formed.{wellFormed}
 use Rattle.buffers.specs.Written.{written}
