@@ -6,7 +6,7 @@ use mathlib.Core.List.{List, [], _++_, append-nil}
 use Prim.Native.Nat.{ℕ, _+_, _-_, _*_, _≤_, _<_}
 use native.Mathlib.Omega.{arith}
 use lib.Dec.{ltb}
-use lib.ListN.{length, take, drop, getD, set, length-drop, drop-of-length-le}
+use lib.ListN.{length, take, drop, getD, length-drop, drop-of-length-le}
 use lib.Seq.{take-all}
 use mir.Syntax.{w64}
 use mir.Val.{Fits}
@@ -24,7 +24,7 @@ use Rattle.tables.proofs.Ordered.{Ordered, ordered}
 use Rattle.answers.specs.declared.flat.Answer.{Answer}
 use Rattle.answers.specs.Flat.{notAccepted}
 use Rattle.updates.specs.declared.record.Updated.{Updated}
-use Rattle.symbols.specs.Changes.{offeredCheck, placeOf, unless, wayOf, Deed, overwrites, inserts, seen, outcomeBy, nowhere, changeOf, storeOf}
+use Rattle.symbols.specs.Changes.{offeredCheck, placeOf, unless, wayOf, overwrites, inserts, seen, outcomeBy, nowhere, changeOf, storeOf}
 use Rattle.symbols.specs.declared.ways.Operation.{Operation}
 use Rattle.symbols.specs.declared.ways.Way.{Way}
 use Rattle.symbols.specs.declared.ways.Way.the-variants as way

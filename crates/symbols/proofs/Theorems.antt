@@ -9,7 +9,7 @@ use native.Mathlib.Omega.{arith}
 use lib.Dec.{eqb, leb, ltb}
 use lib.ListN.{length, take, drop, getD, set, length-set, length-append, length-drop, take-append-drop}
 use lib.Seq.{set-getD, length-take-le, getD-set-same, getD-set-other, drop-at}
-use borrow.Author.Tests.{ltb-true, ltb-false, eq-eqb, lt-ltb, le-ltb, lt-leb, le-leb, leb-true, leb-false, eqb-false}
+use borrow.Author.Tests.{ltb-true, ltb-false, eq-eqb, lt-ltb, le-ltb, lt-leb, leb-true, leb-false, eqb-false}
 use Rattle.layers.specs.Answer as paper
 use Rattle.layers.specs.Answer.{given, nothing, refused}
 use Rattle.layers.specs.Layers.{layers}

@@ -1,14 +1,13 @@
 -- What is known of a table that is in order, sentence by sentence; and that these sentences make it so.
 -- Assumes nothing.
 use mathlib.Core.Path.{_≡_, refl}
-use mathlib.Core.Bool.{Bool, true, false, not, _&&_, and-true, false≢true}
+use mathlib.Core.Bool.{Bool, true, false, not, _&&_, false≢true}
 use mathlib.Core.List.{List}
 use Prim.Native.Nat.{ℕ, _*_, _≤_, _<_}
 use lib.Dec.{leb, eqb}
 use lib.ListN.{length}
 use borrow.Author.Tests.{lt-leb, leb-true, eqb-true, le-leb, eq-eqb, not-true}
-use Rattle.tables.specs.Order.{knownStates, takenFirst, taken, repeats, allPass, inOrder, slotFor, firstFree, slotIn, freeIn}
-use Rattle.tables.specs.Rows.{readFrom}
+use Rattle.tables.specs.Order.{knownStates, takenFirst, taken, repeats, allPass, inOrder}
 use Rattle.tables.specs.declared.symbol.Symbol.{Symbol}
 
 pub record Ordered (table : List Symbol) (store : List ℕ) : Type 0 where
