@@ -65,13 +65,13 @@ module _ {M : Type 1} (𝓤 : URA M) (H : Heap 𝓤) (A : Atoms 𝓤) (W : Given
     abbrev z : Q .Ghost
     z = (((κs .0, (κs .1 .0, tt)), (qs .0, (qs .1 .0, tt)), tt, (a .0, (a .1 .0, tt)), (vs .0, (vs .1 .0, tt))), tt)
 
-    into : ent 𝓤 (P .pre y) (Q .pre (z))
+    into : ent 𝓤 (P .pre y) (Q .pre z)
     into =
         qed W ((raw (alive 𝓤 H A f.signature κs qs) ⊛ ‵ (owns (typesAt (f.signature .params) κs) a vs)) ∷ raw (emp 𝓤) ∷ []) ∵ split ! $ move ! (1 ∷ []) $ fsplit ! $ move ! (1 ∷ []) $
         fsplit ! $ move ! (1 ∷ []) $ fsplit ! $ move ! (1 ∷ []) $ fsplit ! $ move ! (1 ∷ []) $ fsplit ! $ move ! (1 ∷ []) $ drop ! $ nothing ! $ move ! (4 ∷ 0 ∷ []) $ fjoin ! $
         move ! (4 ∷ 0 ∷ []) $ fjoin ! $ move ! (4 ∷ 0 ∷ []) $ join ! $ keep ! (0 ∷ 4 ∷ []) $ done !
 
-    out : (w : Val) (r : Answer) → ent 𝓤 (Got 𝓤 H A g.signature (g.spec 𝓤 H A at-mem run) (z) w r) (Got 𝓤 H A f.signature (f.spec 𝓤 H A at-mem run) y w r)
+    out : (w : Val) (r : Answer) → ent 𝓤 (Got 𝓤 H A g.signature (g.spec 𝓤 H A at-mem run) z w r) (Got 𝓤 H A f.signature (f.spec 𝓤 H A at-mem run) y w r)
     out w r =
         qed W (raw (Back 𝓤 H A f.signature (y .0) w r) ∷ some (λ (ws : Lasts g.ended (z .0 .0) (z .0 .3)). ‵ (lasts g.ended (z .0 .0) (z .0 .3) ws) ⊛ raw (g.clauses 𝓤 H A at-mem run (z .0 .0) (z .0 .3) .ensures tt r (atExit g.ended (z .0 .0) (z .0 .3) ws))) ∷ []) ∵
         move ! (1 ∷ []) $ pick ! (λ ws. split ! $ fsplit ! $ move ! (1 ∷ []) $ fsplit ! $ move ! (1 ∷ []) $ drop ! $ nothing ! $ nothing ! $ fjoin ! $ nothing ! $ fjoin ! $ nothing ! $
@@ -84,8 +84,8 @@ module _ {M : Type 1} (𝓤 : URA M) (H : Heap 𝓤) (A : Atoms 𝓤) (W : Given
         qed W (raw (P .pre y) ∷ []) ∵ enter ! C Λ code.function _ _ $ alloc1 ! (λ l0. alloc1 ! (λ l1. alloc1 ! (λ l2. alloc1 ! (λ l3. alloc1 ! (λ l4. alloc1 ! (λ l5. alloc0 ! $ params1 ! $
         pass1 ! (init ! 8 refl (tt, (tt, (record { fits = are .0 .0 .1 .0 }, tt)))) $ pass1 ! (init ! 6 refl (tt, (tt, (record { fits = are .1 .0 .0 .1 .0 }, tt)))) $
         pass1 ! (init ! 4 refl (tt, record { fits = are .1 .1 .0 .1 })) $ pass1 ! (init ! 2 refl (tt, tt)) $ pass1 ! (init ! 0 refl (tt, record { fits = are .1 .1 .1 .1 .0 .1 })) $
-        pass0 ! $ move ! (12 ∷ []) $ use1 W (raw (Q .pre (z))) (into) $
-        calls-at ! fm Q known (z) (and-then ! (load ! (from ! (stop !)) (look ! 9 refl)) (and-then ! (load ! (from ! (stop !)) (look ! 7 refl)) (no-more !))) (λ w. answered 𝓤 H A g.signature (g.spec 𝓤 H A at-mem run) (z) w W ! tt (λ r is.
+        pass0 ! $ move ! (12 ∷ []) $ use1 W (raw (Q .pre z)) (into) $
+        calls-at ! fm Q known z (and-then ! (load ! (from ! (stop !)) (look ! 9 refl)) (and-then ! (load ! (from ! (stop !)) (look ! 7 refl)) (no-more !))) (λ w. answered 𝓤 H A g.signature (g.spec 𝓤 H A at-mem run) z w W ! tt (λ r is.
         land ! (from ! (stop !)) (init ! 11 refl (LL.lawful R.the-type R′.the-laws 𝓤 H A W .typed r _ is .0)) $ returns ! (look ! 11 refl) $ forget ! 1 refl $ forget ! 3 refl $
         forget ! 5 refl $ forget ! 7 refl $ forget ! 9 refl $ forget ! 11 refl $ move ! (11 ∷ 12 ∷ []) $ free1 ! $ move ! (9 ∷ 10 ∷ []) $ free1 ! $ move ! (7 ∷ 8 ∷ []) $ free1 ! $
         move ! (5 ∷ 6 ∷ []) $ free1 ! $ move ! (3 ∷ 4 ∷ []) $ free1 ! $ move ! (1 ∷ 2 ∷ []) $ free1 ! $ free0 ! $ keep ! (0 ∷ []) $

@@ -79,7 +79,7 @@ module _ {M : Type 1} (𝓤 : URA M) (H : Heap 𝓤) (A : Atoms 𝓤) (W : Given
     abbrev z : Q .Ghost
     z = (((κs .0, (κs .1 .0, (κs .1 .1 .0, tt))), (qs .0, (qs .1 .0, (qs .1 .1 .0, tt))), tt, (a .0, (a .1 .0, (op, (a .1 .1 .0, (a .1 .1 .1 .0, (a .1 .1 .1 .1 .0, (0, (a .1 .1 .1 .1 .1 .0, tt)))))))), (vs .0, (vs .1 .0, (EL.vals O.the-type O′.the-laws op, (vs .1 .1 .0, (vs .1 .1 .1 .0, (vs .1 .1 .1 .1 .0, (vint w64 0 ∷ [], (vs .1 .1 .1 .1 .1 .0, tt))))))))), tt)
 
-    into : ent 𝓤 (P .pre y) (Q .pre (z))
+    into : ent 𝓤 (P .pre y) (Q .pre z)
     into =
         qed W ((raw (alive 𝓤 H A f.signature κs qs) ⊛ ‵ (owns (typesAt (f.signature .params) κs) a vs)) ∷ raw (emp 𝓤) ∷ []) ∵ split ! $ move ! (1 ∷ []) $ fsplit ! $ move ! (1 ∷ []) $
         fsplit ! $ move ! (1 ∷ []) $ fsplit ! $ move ! (1 ∷ []) $ fsplit ! $ move ! (1 ∷ []) $ fsplit ! $ move ! (1 ∷ []) $ fsplit ! $ move ! (1 ∷ []) $ drop ! $ nothing ! $
@@ -87,7 +87,7 @@ module _ {M : Type 1} (𝓤 : URA M) (H : Heap 𝓤) (A : Atoms 𝓤) (W : Given
         fjoin ! $ move ! (1 ∷ 0 ∷ []) $ fjoin ! $ owned ! O.the-row (Is O.the-row) (EL.makes O.the-type O′.the-plain 𝓤 H A) op _ made $ fjoin ! $ move ! (1 ∷ 0 ∷ []) $ fjoin ! $
         move ! (1 ∷ 0 ∷ []) $ fjoin ! $ move ! (1 ∷ 0 ∷ []) $ join ! $ keep ! (0 ∷ 1 ∷ []) $ done !
 
-    out : (w : Val) (r : Answer) → ent 𝓤 (Got 𝓤 H A g.signature (g.spec 𝓤 H A at-mem run) (z) w r) (Got 𝓤 H A f.signature (f.spec 𝓤 H A at-mem run) y w r)
+    out : (w : Val) (r : Answer) → ent 𝓤 (Got 𝓤 H A g.signature (g.spec 𝓤 H A at-mem run) z w r) (Got 𝓤 H A f.signature (f.spec 𝓤 H A at-mem run) y w r)
     out w r =
         qed W (raw (Back 𝓤 H A f.signature (y .0) w r) ∷ some (λ (ws : Lasts g.ended (z .0 .0) (z .0 .3)). ‵ (lasts g.ended (z .0 .0) (z .0 .3) ws) ⊛ raw (g.clauses 𝓤 H A at-mem run (z .0 .0) (z .0 .3) .ensures tt r (atExit g.ended (z .0 .0) (z .0 .3) ws))) ∷ []) ∵
         move ! (1 ∷ []) $ pick ! (λ ws. split ! $ fsplit ! $ move ! (1 ∷ []) $ fsplit ! $ move ! (1 ∷ []) $ fsplit ! $ move ! (1 ∷ []) $ fsplit ! $ move ! (1 ∷ []) $ fsplit ! $
@@ -109,8 +109,8 @@ module _ {M : Type 1} (𝓤 : URA M) (H : Heap 𝓤) (A : Atoms 𝓤) (W : Given
         assigns ! (addr ! (from ! (fld ! refl (hop ! (look-in ! 18 (sub ! 0 refl (whole !))) (stop !))))) (from ! (stop !)) (init ! 4 refl (tt, tt)) $
         assigns ! (agg ! (and-then ! (load ! (from ! (stop !)) (look ! 4 refl)) (and-then ! (load ! (from ! (fld ! refl (stop !))) (look-in ! 18 (sub ! 1 refl (whole !)))) (no-more !)))) (from ! (stop !)) (init ! 2 refl (tt, (tt, (record { fits = are .1 .0 .0 .1 .0 }, tt)))) $
         assigns ! (agg ! (and-then ! (lit ! tt) (no-more !))) (from ! (stop !)) (init ! 0 refl (EL.lawful O.the-type O′.the-laws 𝓤 H A W tt .typed op (EL.vals O.the-type O′.the-laws op) made .0)) $
-        move ! (24 ∷ []) $ use1 W (raw (Q .pre (z))) (into) $
-        calls-at ! fm Q known (z) (and-then ! (load ! (from ! (stop !)) (look ! 7 refl)) (and-then ! (load ! (from ! (stop !)) (look ! 3 refl)) (and-then ! (load ! (from ! (stop !)) (look ! 1 refl)) (and-then ! (load ! (from ! (stop !)) (look ! 17 refl)) (and-then ! (load ! (from ! (stop !)) (look ! 15 refl)) (and-then ! (load ! (from ! (stop !)) (look ! 13 refl)) (and-then ! (lit ! tt) (and-then ! (load ! (from ! (stop !)) (look ! 11 refl)) (no-more !))))))))) (λ w. answered 𝓤 H A g.signature (g.spec 𝓤 H A at-mem run) (z) w W ! tt (λ r is.
+        move ! (24 ∷ []) $ use1 W (raw (Q .pre z)) (into) $
+        calls-at ! fm Q known z (and-then ! (load ! (from ! (stop !)) (look ! 7 refl)) (and-then ! (load ! (from ! (stop !)) (look ! 3 refl)) (and-then ! (load ! (from ! (stop !)) (look ! 1 refl)) (and-then ! (load ! (from ! (stop !)) (look ! 17 refl)) (and-then ! (load ! (from ! (stop !)) (look ! 15 refl)) (and-then ! (load ! (from ! (stop !)) (look ! 13 refl)) (and-then ! (lit ! tt) (and-then ! (load ! (from ! (stop !)) (look ! 11 refl)) (no-more !))))))))) (λ w. answered 𝓤 H A g.signature (g.spec 𝓤 H A at-mem run) z w W ! tt (λ r is.
         land ! (from ! (stop !)) (init ! 23 refl (LL.lawful R.the-type R′.the-laws 𝓤 H A W .typed r _ is .0)) $ returns ! (look ! 23 refl) $ forget ! 1 refl $ forget ! 3 refl $
         forget ! 5 refl $ forget ! 7 refl $ forget ! 9 refl $ forget ! 11 refl $ forget ! 13 refl $ forget ! 15 refl $ forget ! 17 refl $ forget ! 19 refl $ forget ! 21 refl $
         forget ! 23 refl $ move ! (23 ∷ 24 ∷ []) $ free1 ! $ move ! (21 ∷ 22 ∷ []) $ free1 ! $ move ! (19 ∷ 20 ∷ []) $ free1 ! $ move ! (17 ∷ 18 ∷ []) $ free1 ! $
