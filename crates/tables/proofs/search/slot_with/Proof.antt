@@ -1,17 +1,17 @@
 use Prim.Native.Nat.{_≤_, _-_}
 use borrow.Author.Needs.{needs}
 use Rattle.tables.proofs.Sentences.{SlotPassed, slot-many, slot-start, slot-found, slot-on, slot-over}
-use Rattle.tables.proofs.search.slot_of.Statement.{statement}
-use Rattle.tables.proofs.search.slot_of.Tie as tie
+use Rattle.tables.proofs.search.slot_with.Statement.{statement}
+use Rattle.tables.proofs.search.slot_with.Tie as tie
 
 abbrev Inv-loop : tie.InvT-loop
-Inv-loop flat n id wanted i₀ i = (i ≤ n) × (n ≤ 128) × SlotPassed flat n id i
+Inv-loop flat n wanted i₀ i = (i ≤ n) × (n ≤ 128) × SlotPassed flat n wanted i
 
 abbrev μ-loop : tie.MeasureT-loop
-μ-loop flat n id wanted i₀ i = n - i
+μ-loop flat n wanted i₀ i = n - i
 
-pub slot-of-spec : {M : Type 1} → statement M
-slot-of-spec =
+pub slot-with-spec : {M : Type 1} → statement M
+slot-with-spec =
     tie.close
     (tie.spec
     Inv-loop
