@@ -16,3 +16,4 @@ pub mod Answered
 pub mod Carried
 pub mod Single
 pub mod Table
+pub mod Surprises
