@@ -13,7 +13,15 @@ mod disorder;
 #[cfg(face)]
 mod face;
 #[cfg(face)]
+mod journeys;
+#[cfg(face)]
 mod lent;
+#[cfg(face)]
+mod plan_face;
+#[cfg(face)]
+mod planning;
+#[cfg(face)]
+mod plans;
 // Its fields are there for the original's text to fill in.
 #[allow(dead_code)]
 mod prelude;

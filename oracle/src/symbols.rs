@@ -104,7 +104,7 @@ fn stored(symbol: &Symbol, part: &[u64]) -> Option<ValueType> {
 }
 
 /// The original's record of a taken one that is in order.
-fn record(symbol: &Symbol, part: &[u64]) -> Record {
+pub fn record(symbol: &Symbol, part: &[u64]) -> Record {
     Record {
         id: symbol.id,
         authority: symbol.authority,

@@ -26,7 +26,7 @@ here ws i h =
     more-drop (drop i ws) enough ∙ simp (getD-drop, drop-drop, zero)
 
 -- word counts that pass check 1
-counted : (a b c : Bool) → (a || b || not c) ≡ false → (b ≡ false) × (c ≡ true)
+pub counted : (a b c : Bool) → (a || b || not c) ≡ false → (b ≡ false) × (c ≡ true)
 counted false false true e = (refl, refl)
 counted false false false e = absurd (true≢false e)
 counted false true c e = absurd (true≢false e)

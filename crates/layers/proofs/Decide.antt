@@ -1,7 +1,7 @@
 -- A decision, by its test.
 -- Assumes nothing.
-use mathlib.Core.Path.{_≡_, sym, _∙_}
-use mathlib.Core.Bool.{Bool, true, false, cond, true≢false, false≢true}
+use mathlib.Core.Path.{_≡_, refl, sym, _∙_}
+use mathlib.Core.Bool.{Bool, true, false, cond, _&&_, true≢false, false≢true}
 
 pub yes : {A : Type 0} (f : Bool) (r x y : A) → f ≡ true → r ≡ x → r ≡ cond f x y
 yes true r x y f e = e
@@ -17,3 +17,8 @@ yes-by f g r x y p q e = yes f r x y (sym p ∙ q) e
 
 pub no-by : {A : Type 0} (f g : Bool) (r x y : A) → g ≡ f → g ≡ false → r ≡ y → r ≡ cond f x y
 no-by f g r x y p q e = no f r x y (sym p ∙ q) e
+
+-- both of two tests
+pub both : (u v : Bool) → (u && v) ≡ true → (u ≡ true) × (v ≡ true)
+both true v e = (refl, e)
+both false v e = absurd (false≢true e)

@@ -22,6 +22,11 @@ layers (k ∷ n ∷ []) = []
 layers (k ∷ []) = []
 layers [] = []
 
+-- The words of a run of layers.
+unfoldable pub spelled : List Layer → List ℕ
+spelled [] = []
+spelled (x ∷ a) = x .kind ∷ x .name ∷ x .number ∷ spelled a
+
 -- The kinds that hold an inner type: arrays of any sort, slices, references.
 abbrev pub isArray : ℕ → Bool
 isArray k = eqb k kind.array || eqb k kind.arrayWithNamedLength || eqb k kind.endlessArray || eqb k kind.arraylike

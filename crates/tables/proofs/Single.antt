@@ -19,6 +19,8 @@ use Rattle.tables.proofs.search.first_free.Kinds as first-free-kinds
 use Rattle.tables.proofs.search.first_free.Reads as first-free
 use Rattle.tables.proofs.search.slot_of.Kinds as slot-of-kinds
 use Rattle.tables.proofs.search.slot_of.Reads as slot-of
+use Rattle.tables.proofs.search.slot_with.Kinds as slot-with-kinds
+use Rattle.tables.proofs.search.slot_with.Reads as slot-with
 use Rattle.tables.proofs.rows.gather as gather
 use Rattle.tables.proofs.search.find_symbol as find-symbol
 
@@ -33,6 +35,9 @@ first-free-single κs a x y s t p q = p ∙ sym q
 
 pub slot-of-single : Single 1 slot-of-kinds.ps slot-of-kinds.r slot-of.Post
 slot-of-single κs a x y s t p q = p ∙ sym q
+
+pub slot-with-single : Single 1 slot-with-kinds.ps slot-with-kinds.r slot-with.Post
+slot-with-single κs a x y s t p q = p ∙ sym q
 
 -- A walked function's contract: what it ensures is a fact, and of two results of which the fact holds Same holds.
 abbrev pub Walked : {M : Type 1} (𝓤 : URA M) {R S : Type 0} → (R → S → SProp 𝓤) → (R → S → R → S → Type 0) → Type 2

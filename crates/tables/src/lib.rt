@@ -10,4 +10,5 @@ pub use rows::row;
 pub use search::find_symbol;
 pub use search::first_free;
 pub use search::slot_of;
+pub use search::slot_with;
 pub use symbol::Symbol;

@@ -21,13 +21,12 @@ pub fn first_free(flat: &[u64; 768], n: usize) -> usize
 }
 
 // The first of n records that is taken and has the id, or n.
-pub fn slot_of(flat: &[u64; 768], n: usize, id: u32) -> usize
-    ensures { λ r. ⌜ r ≡ slotIn (now (flat .entry)) n id ⌝ }
+pub fn slot_with(flat: &[u64; 768], n: usize, wanted: u64) -> usize
+    ensures { λ r. ⌜ r ≡ slotIn (now (flat .entry)) n wanted ⌝ }
 {
     if n > 128 {
         return n;
     }
-    let wanted = id as u64;
     let mut i = 0;
     while i < n {
         if (flat[i] == wanted) & (flat[i + 384] != 0) {
@@ -36,6 +35,13 @@ pub fn slot_of(flat: &[u64; 768], n: usize, id: u32) -> usize
         i += 1;
     }
     i
+}
+
+// The same, of an id as a record has it.
+pub fn slot_of(flat: &[u64; 768], n: usize, id: u32) -> usize
+    ensures { λ r. ⌜ r ≡ slotIn (now (flat .entry)) n id ⌝ }
+{
+    slot_with(flat, n, id as u64)
 }
 
 fn slot_among(flat: [u64; 768], n: usize, id: u32) -> usize

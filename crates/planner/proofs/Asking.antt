@@ -1,0 +1,133 @@
+-- The answer to a question, by what its checks said.
+-- Assumes nothing.
+use mathlib.Core.Path.{_≡_, refl, sym, ap, _∙_}
+use mathlib.Core.Bool.{Bool, true, false, cond, not, true≢false}
+use mathlib.Core.List.{List}
+use Prim.Native.Nat.{ℕ, _/_, _≤_, _<_}
+use native.Mathlib.Omega.{arith}
+use lib.Dec.{ltb}
+use lib.ListN.{length}
+use borrow.Author.Tests.{lt-ltb, le-ltb, ltb-false, not-true, not-false}
+use Rattle.layers.specs.Layers.{layers}
+use Rattle.layers.specs.Answer.{Answer, given, nothing, refused, next, ofChecked}
+use Rattle.layers.specs.Check.{Place, at, nowhere, badCount, badLayer, misplaced, unless, checkOf}
+use Rattle.layers.specs.declared.answers.Checked.{Checked}
+use Rattle.layers.specs.declared.answers.Checked.the-variants.{Good, Refused}
+use Rattle.layers.proofs.Given.{not-given}
+use Rattle.layers.proofs.Accepted.{Whole, accepted-whole}
+use Rattle.forms.specs.Formed.{wellFormed}
+use Rattle.tables.specs.declared.symbol.Symbol.{Symbol}
+use Rattle.tables.specs.Rows.{readFrom, gathered}
+use Rattle.tables.specs.Order.{inOrder}
+use Rattle.tables.proofs.Columns.{length-read, swapped}
+use Rattle.tables.proofs.Ordered.{ordered, too-long}
+use Rattle.steps.specs.Steps.{steps, stepsAnswer}
+use Rattle.walker.specs.Walker.{Stored}
+use Rattle.walker.specs.Members.{memberIn, ofLayers, members, memberWords}
+use Rattle.walker.proofs.Storing.{at-most, member-whole}
+use Rattle.planner.specs.Walk.{walk}
+use Rattle.planner.specs.Plan.{Plan, planOf, settleWalk}
+use Rattle.planner.specs.Report.{delivered, notGiven}
+use Rattle.planner.specs.Finish.{AllWhole, walked}
+use Rattle.planner.specs.Answers.{limits, question, planned, planAnswer}
+use Rattle.planner.proofs.Delivering.{Told, refuses}
+
+-- the limits
+pub over : (asked : List ℕ) (rounds : ℕ) → 64 < rounds → refused 5 0 ≡ limits asked rounds
+over asked rounds h = rw (lt-ltb 64 rounds h)
+
+pub within : (asked : List ℕ) (rounds : ℕ) (r : Answer ℕ) → rounds ≤ 64 → r ≡ stepsAnswer 32 asked → r ≡ limits asked rounds
+within asked rounds r h e = rw (le-ltb 64 rounds h) e
+
+-- a table given by its columns
+module _ (ws : List ℕ) (n : ℕ) (store known asked target : List ℕ) (level rounds : ℕ) (s t : List ℕ) (b : Bool) (e : b ≡ inOrder (readFrom ws 0 n) store) where
+  abbrev outcome : Answer Plan
+  outcome = planned (readFrom ws 0 n) store known asked target level rounds (length s) (length t)
+
+  pub out-of-order : not b ≡ true → Told outcome (notGiven 12 0) s s t t
+  unfolding planned
+  out-of-order h = refuses outcome 12 0 s t (rw (← e, not-true b h))
+
+  module _ (h : not b ≡ false) (f : Bool) (p : f ≡ wellFormed (layers known)) where
+    ok : inOrder (readFrom ws 0 n) store ≡ true
+    ok = sym e ∙ not-false b h
+
+    pub known-ill-formed : not f ≡ true → Told outcome (notGiven 4 0) s s t t
+    unfolding planned planOf delivered
+    known-ill-formed g = refuses outcome 4 0 s t (rw (ok, ← p, not-true f g))
+
+    module _ (g : not f ≡ false) (u : Bool) (q : u ≡ wellFormed (layers target)) where
+      pub target-ill-formed : not u ≡ true → Told outcome (notGiven 4 0) s s t t
+      unfolding planned planOf delivered
+      target-ill-formed i = refuses outcome 4 0 s t (rw (ok, ← p, not-false f g, ← q, not-true u i))
+
+      few : n ≤ 128
+      few = rw (length-read ws 0 n) at (ordered (readFrom ws 0 n) store ok .few)
+
+      same-members : (λ (id : ℕ). ofLayers (layers (memberIn ws n store id))) ≡ members (readFrom ws 0 n) store
+      unfolding members
+      same-members = λ i id. ofLayers (layers (at-most ws store n id few i))
+
+      pub all-whole : AllWhole (memberIn ws n store)
+      all-whole id =
+          let w = member-whole (readFrom ws 0 n) store id ok in
+          rw (at-most ws store n id few) (record { whole = w .1; few = w .0 })
+
+      pub planned-so : not u ≡ false → walked (memberIn ws n store) known asked target level rounds (length s) (length t) ≡ outcome
+      unfolding planned planOf walked
+      planned-so i = rw (ok, ← p, not-false f g, ← q, not-false u i, same-members) refl
+
+-- a question that passed its checks
+pub passed : {A : Type 0} (ws : List ℕ) (c : Answer A) (i : A) → next (checkOf ws) c ≡ given i → (checkOf ws ≡ given (length ws / 3)) × (c ≡ given i)
+unfolding checkOf
+passed {A} ws c i e = by-count (badCount (length ws)) (badLayer 0 (layers ws)) (misplaced 0 (layers ws)) e
+  where
+    by-count : (b : Bool) (l m : Place) → next (cond b (refused 1 0) (unless l 2 (unless m 3 (given (length ws / 3))))) c ≡ given i →
+        (cond b (refused 1 0) (unless l 2 (unless m 3 (given (length ws / 3)))) ≡ given (length ws / 3)) × (c ≡ given i)
+    by-count true l m e = absurd (not-given 1 0 i e)
+    by-count false (at p) m e = absurd (not-given 2 p i e)
+    by-count false nowhere (at p) e = absurd (not-given 3 p i e)
+    by-count false nowhere nowhere e = (refl, e)
+
+module _ (known asked target : List ℕ) (rounds : ℕ) (x : Checked) (i : ℕ) (e : ofChecked x ≡ question known asked target rounds) (h : x ≡ Good i) where
+  first : (checkOf known ≡ given (length known / 3)) × (next (checkOf target) (limits asked rounds) ≡ given i)
+  first = passed known (next (checkOf target) (limits asked rounds)) i (sym e ∙ rw h)
+
+  second : (checkOf target ≡ given (length target / 3)) × (limits asked rounds ≡ given i)
+  second = passed target (limits asked rounds) i (first .1)
+
+  pub known-whole : Whole known
+  known-whole = accepted-whole known (length known / 3) (first .0)
+
+  pub target-whole : Whole target
+  target-whole = accepted-whole target (length target / 3) (second .0)
+
+  pub few-rounds : rounds ≤ 64
+  few-rounds = by-limit (ltb 64 rounds) refl (second .1)
+    where
+      by-limit : (f : Bool) → ltb 64 rounds ≡ f → cond f (refused 5 0) (stepsAnswer 32 asked) ≡ given i → rounds ≤ 64
+      by-limit true p q = absurd (not-given 5 0 i q)
+      by-limit false p q = ltb-false 64 rounds p
+
+-- a question that did not
+module _ (table : List Symbol) (store known asked target : List ℕ) (level rounds : ℕ) (s t : List ℕ) (x : Checked) (e : ofChecked x ≡ question known asked target rounds) where
+  pub question-refused : (n p : ℕ) → x ≡ Refused n p → Told (planAnswer table store known asked target level rounds (length s) (length t)) (notGiven n p) s s t t
+  unfolding planAnswer
+  question-refused n p h = refuses _ n p s t (rw (← e, h) refl)
+
+  pub question-passed : (i : ℕ) → x ≡ Good i →
+      planned table store known asked target level rounds (length s) (length t) ≡ planAnswer table store known asked target level rounds (length s) (length t)
+  unfolding planAnswer
+  question-passed i h = rw (← e, h) refl
+
+-- from the columns to the table
+module _ (store known asked target : List ℕ) (level rounds room wide : ℕ) (table : List Symbol) where
+  abbrev answer : List Symbol → Answer Plan
+  answer l = planAnswer l store known asked target level rounds room wide
+
+  too-many : (l : List Symbol) → length l ≡ length table → 128 < length l → answer l ≡ next (question known asked target rounds) (refused 12 0)
+  unfolding planAnswer planned
+  too-many l e h = rw (too-long l store h)
+
+  pub plan-same : answer (readFrom (gathered table) 0 (length table)) ≡ answer table
+  plan-same = swapped table answer (next (question known asked target rounds) (refused 12 0)) too-many

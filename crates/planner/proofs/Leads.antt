@@ -1,0 +1,75 @@
+-- What one round does: its steps lead the walker where the round goes on, and the asked steps among them are those that
+-- it takes.
+-- Assumes nothing.
+use mathlib.Core.Path.{_≡_, refl, sym, ap, _∙_}
+use mathlib.Core.Bool.{Bool, true, false, cond}
+use mathlib.Core.List.{List, [], _∷_, map}
+use Prim.Native.Nat.{ℕ}
+use lib.Dec.{eqb}
+use lib.ListN.{take, drop}
+use Rattle.kinds.specs.Kind as kind
+use Rattle.layers.specs.Layers.{Layer, outer, inside, isReference}
+use Rattle.layers.specs.Answer.{given, refused}
+use Rattle.forms.specs.Formed.{wellFormed}
+use Rattle.steps.specs.StepKind as of-step
+use Rattle.steps.specs.Steps.{Step}
+use Rattle.turns.specs.declared.turn.Turn.{Turn}
+use Rattle.turns.specs.declared.turn.Turn.the-variants.{Stuck, Auto, Element, Desliced, Member}
+use Rattle.layers.proofs.Given.{not-given, given-is}
+use Rattle.turns.proofs.Cases.{cases}
+use Rattle.walker.specs.Walker.{at, Stored, typed, absent, act, walker}
+use Rattle.planner.specs.Walk.{stepsOf, takenBy, memberType, goes, turnOf}
+use Rattle.planner.specs.Demand.{asked, unmarked, rounds}
+
+-- the layers inside
+pub one-in : (t : List Layer) → drop 1 t ≡ inside t
+unfolding inside
+one-in [] = refl
+one-in (x ∷ t) = refl
+
+pub two-in : (t : List Layer) → drop 2 t ≡ inside (inside t)
+unfolding inside
+two-in [] = refl
+two-in (x ∷ []) = refl
+two-in (x ∷ y ∷ t) = refl
+
+pub reached : (m : Stored) (u : List Layer) → memberType m ≡ given u → m ≡ typed u
+reached absent u g = absurd (not-given 11 0 u g)
+reached (typed t) u g = by-form (wellFormed t) g
+  where
+    by-form : (f : Bool) → cond f (given t) (refused 4 0) ≡ given u → typed t ≡ typed u
+    by-form true g = ap typed (given-is t u g)
+    by-form false g = absurd (not-given 4 0 u g)
+
+module _ (stored : ℕ → Stored) (t : List Layer) (a : Step) where
+  abbrev Leads : Turn → Type 0
+  Leads r = (u : List Layer) → goes stored t a r ≡ given u → walker stored (stepsOf a r) t ≡ at u
+
+  pub leads : Leads (turnOf stored t a)
+  unfolding walker act outer inside
+  leads =
+      cases (outer t) (outer (inside t)) (a .kind) (a .mark) Leads
+      (λ u g. absurd (not-given 8 0 u g))
+      (λ e u g. rw e (ap at (given-is (inside t) u g)))
+      (λ e u g. rw e (ap at (given-is (inside t) u g)))
+      (λ e f g h u k. rw (e, f, g) (ap at (sym (two-in t) ∙ given-is (drop 2 t) u k)))
+      (λ m e f u g. rw e (ap at (sym (one-in t) ∙ given-is (drop 1 t) u g)))
+      (λ e f u g. rw e (ap at (given-is (inside t) u g)))
+      (λ e f u g. rw e (ap at (given-is (inside t) u g)))
+      (λ e f u g. rw (f, e, reached (stored (a .handle)) u g))
+
+  -- the asked steps of a round are those that it takes
+  pub takes : (q : List Step) (u : List Layer) → goes stored t a (turnOf stored t a) ≡ given u →
+      asked (stepsOf a (turnOf stored t a)) ≡ map unmarked (take (takenBy (turnOf stored t a)) (a ∷ q))
+  unfolding asked
+  takes q u =
+      cases (outer t) (outer (inside t)) (a .kind) (a .mark)
+      (λ r. goes stored t a r ≡ given u → asked (stepsOf a r) ≡ map unmarked (take (takenBy r) (a ∷ q)))
+      (λ g. refl) (λ e g. refl) (λ e g. refl) (λ d e f h g. rw h) (λ m e f g. rw f) (λ e f g. rw f) (λ e f g. rw f) (λ e f g. rw f)
+
+  -- a round that goes on is one round
+  pub turns-once : (u : List Layer) → goes stored t a (turnOf stored t a) ≡ given u → rounds (stepsOf a (turnOf stored t a)) ≡ 1
+  unfolding rounds
+  turns-once u =
+      cases (outer t) (outer (inside t)) (a .kind) (a .mark) (λ r. goes stored t a r ≡ given u → rounds (stepsOf a r) ≡ 1)
+      (λ g. absurd (not-given 8 0 u g)) (λ e g. refl) (λ e g. refl) (λ d e f h g. refl) (λ m e f g. refl) (λ e f g. refl) (λ e f g. refl) (λ e f g. rw f)

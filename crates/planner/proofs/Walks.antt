@@ -1,0 +1,129 @@
+-- What a walk that has ended tells: the walker goes its steps from the known type to the current one; the asked steps
+-- among them are the first ones that were asked, in order; and they are all of them, or the rounds were used up.
+-- Assumes nothing.
+use mathlib.Core.Path.{_≡_, refl, sym, ap, subst, _∙_}
+use mathlib.Core.Bool.{Bool, true, false, cond}
+use mathlib.Core.Logic.{_⊎_, inl, inr, ⊎-elim}
+use mathlib.Core.List.{List, [], _∷_, _++_, map, map-append}
+use Prim.Native.Nat.{ℕ, zero, suc, _+_, _≤_}
+use native.Mathlib.Omega.{arith}
+use lib.Dec.{eqb, leb}
+use lib.ListN.{length, take, drop, length-drop}
+use lib.Seq.{take-add}
+use Rattle.layers.specs.Layers.{Layer}
+use Rattle.layers.specs.Answer.{Answer, given, nothing, refused}
+use Rattle.steps.specs.StepKind as of-step
+use Rattle.steps.specs.Steps.{Step}
+use Rattle.turns.specs.declared.turn.Turn.{Turn}
+use Rattle.turns.specs.declared.turn.Turn.the-variants.{Stuck, Auto, Element, Desliced, Member}
+use Rattle.walker.specs.Walker.{Where, at, stuck, Stored, act, then, walker}
+use Rattle.planner.specs.Walk.{Walk, ended, stopped, stepsOf, takenBy, goes, turnOf, prepend, onward, walk}
+use Rattle.planner.specs.Demand.{asked, unmarked, rounds}
+use Rattle.planner.proofs.Leads.{leads, takes, turns-once}
+
+pub asked-append : (ss us : List Step) → asked (ss ++ us) ≡ asked ss ++ asked us
+unfolding asked
+asked-append [] us = refl
+asked-append (s ∷ ss) us = by-kind (leb (s .kind) of-step.member) (asked-append ss us)
+  where
+    by-kind : (f : Bool) → asked (ss ++ us) ≡ asked ss ++ asked us →
+        cond f (unmarked s ∷ asked (ss ++ us)) (asked (ss ++ us)) ≡ cond f (unmarked s ∷ asked ss) (asked ss) ++ asked us
+    by-kind true i = rw i
+    by-kind false i = i
+
+rounds-append : (ss us : List Step) → rounds (ss ++ us) ≡ rounds ss + rounds us
+unfolding rounds
+rounds-append [] us = omega arith
+rounds-append (s ∷ ss) us = by-kind (eqb (s .kind) of-step.autodeslice) (rounds-append ss us)
+  where
+    by-kind : (f : Bool) → rounds (ss ++ us) ≡ rounds ss + rounds us →
+        cond f (rounds (ss ++ us)) (rounds (ss ++ us) + 1) ≡ cond f (rounds ss) (rounds ss + 1) + rounds us
+    by-kind true i = i
+    by-kind false i = omega (arith, i)
+
+taken-few : (r : Turn) → takenBy r ≤ 1
+taken-few Stuck = omega arith
+taken-few (Auto k) = omega arith
+taken-few (Element m l) = omega arith
+taken-few (Desliced m) = omega arith
+taken-few Member = omega arith
+
+module _ (stored : ℕ → Stored) where
+  -- what holds where a walk leaves off, and of a round before a walk of which it holds, holds of every walk that ends
+  module _ (P : ℕ → List Layer → List Step → List Step → ℕ → List Layer → Type 0)
+      (out : (t : List Layer) (q : List Step) → P 0 t q [] 0 t)
+      (done : (n : ℕ) (t : List Layer) → P (suc n) t [] [] 0 t)
+      (more : (n : ℕ) (t : List Layer) (a : Step) (q : List Step) (u : List Layer) (us : List Step) (j : ℕ) (c : List Layer) →
+      goes stored t a (turnOf stored t a) ≡ given u → P n u (drop (takenBy (turnOf stored t a)) (a ∷ q)) us j c →
+      P (suc n) t (a ∷ q) (stepsOf a (turnOf stored t a) ++ us) (takenBy (turnOf stored t a) + j) c) where
+    abbrev Holds : ℕ → List Layer → List Step → Walk → Type 0
+    Holds n t q (ended ss k c) = P n t q ss k c
+    Holds n t q (stopped number) = Unit {0}
+
+    module _ (n : ℕ) (t : List Layer) (a : Step) (q : List Step) where
+      abbrev r : Turn
+      r = turnOf stored t a
+
+      before : (u : List Layer) → goes stored t a r ≡ given u → (w : Walk) → Holds n u (drop (takenBy r) (a ∷ q)) w →
+          Holds (suc n) t (a ∷ q) (prepend stored (stepsOf a r) (takenBy r) w)
+      before u g (ended us j c) h = more n t a q u us j c g h
+      before u g (stopped number) h = tt
+
+      round : (g : Answer (List Layer)) → goes stored t a r ≡ g → (f : List Layer → Walk) →
+          ((u : List Layer) → Holds n u (drop (takenBy r) (a ∷ q)) (f u)) → Holds (suc n) t (a ∷ q) (onward stored (stepsOf a r) (takenBy r) g f)
+      round (given u) g f h = before u g (f u) (h u)
+      round nothing g f h = tt
+      round (refused number p) g f h = tt
+
+    holds : (n : ℕ) (t : List Layer) (q : List Step) → Holds n t q (walk stored n t q)
+    unfolding walk
+    holds zero t q = out t q
+    holds (suc n) t [] = done n t
+    holds (suc n) t (a ∷ q) =
+        round n t a q (goes stored t a (turnOf stored t a)) refl (λ u. walk stored n u (drop (takenBy (turnOf stored t a)) (a ∷ q)))
+        (λ u. holds n u (drop (takenBy (turnOf stored t a)) (a ∷ q)))
+
+    pub every-walk : (n : ℕ) (t : List Layer) (q ss : List Step) (k : ℕ) (c : List Layer) → walk stored n t q ≡ ended ss k c → P n t q ss k c
+    every-walk n t q ss k c e = subst (Holds n t q) e (holds n t q)
+
+  append-on : (w : Where) (ss us : List Step) → ((t : List Layer) → walker stored (ss ++ us) t ≡ then stored (walker stored ss t) (walker stored us)) →
+      then stored w (walker stored (ss ++ us)) ≡ then stored (then stored w (walker stored ss)) (walker stored us)
+  append-on (at t) ss us h = h t
+  append-on stuck ss us h = refl
+
+  -- the walker takes steps after steps
+  pub walker-append : (ss us : List Step) (t : List Layer) → walker stored (ss ++ us) t ≡ then stored (walker stored ss t) (walker stored us)
+  unfolding walker
+  walker-append [] us t = refl
+  walker-append (s ∷ ss) us t = append-on (act stored s t) ss us (walker-append ss us)
+
+  module _ (n : ℕ) (t : List Layer) (q ss : List Step) (k : ℕ) (c : List Layer) (e : walk stored n t q ≡ ended ss k c) where
+    -- the walker goes the steps of a walk from its type to the current one
+    pub walks : walker stored ss t ≡ at c
+    unfolding walker
+    walks =
+        every-walk (λ n t q ss k c. walker stored ss t ≡ at c) (λ t q. refl) (λ n t. refl)
+        (λ n t a q u us j c g h. rw (walker-append (stepsOf a (turnOf stored t a)) us t, leads stored t a u g) h) n t q ss k c e
+
+    -- "the element and member steps are, an element's endless mark aside, the first *taken* asked steps in order"
+    pub in-order : asked ss ≡ map unmarked (take k q)
+    unfolding asked
+    in-order =
+        every-walk (λ n t q ss k c. asked ss ≡ map unmarked (take k q)) (λ t q. refl) (λ n t. refl)
+        (λ n t a q u us j c g h.
+        asked-append (stepsOf a (turnOf stored t a)) us
+        ∙ rw (takes stored t a q u g, h, take-add (takenBy (turnOf stored t a)) j (a ∷ q))
+        (sym (map-append unmarked (take (takenBy (turnOf stored t a)) (a ∷ q)) (take j (drop (takenBy (turnOf stored t a)) (a ∷ q))))))
+        n t q ss k c e
+
+    -- "*taken* is all of them unless the rounds were used up"
+    pub all-taken : (k ≡ length q) ⊎ (rounds ss ≡ n)
+    unfolding rounds
+    all-taken =
+        every-walk (λ n t q ss k c. (k ≡ length q) ⊎ (rounds ss ≡ n)) (λ t q. inr refl) (λ n t. inl refl)
+        (λ n t a q u us j c g h.
+        ⊎-elim
+        (λ (i : j ≡ length (drop (takenBy (turnOf stored t a)) (a ∷ q))).
+        inl (omega (arith, i, length-drop (takenBy (turnOf stored t a)) (a ∷ q), taken-few (turnOf stored t a))))
+        (λ (i : rounds us ≡ n). inr (rounds-append (stepsOf a (turnOf stored t a)) us ∙ rw (turns-once stored t a u g, i) (omega arith))) h)
+        n t q ss k c e

@@ -1,0 +1,33 @@
+-- A plan for any words, tables and numbers: "Types are checked 1, 2 (all layers), 3, left before right; then 5, 12, 13, 4
+-- (known, target) ...; then the walk (8, 11, 4 for a member's type), the settling, 15, 14."
+use mathlib.Core.Bool.{cond, not}
+use mathlib.Core.List.{List}
+use Prim.Native.Nat.{ℕ}
+use lib.Dec.{ltb}
+use Rattle.layers.specs.Layers.{layers}
+use Rattle.layers.specs.Answer.{Answer, given, refused, next}
+use Rattle.layers.specs.Check.{checkOf}
+use Rattle.tables.specs.declared.symbol.Symbol.{Symbol}
+use Rattle.tables.specs.Order.{inOrder}
+use Rattle.steps.specs.Steps.{steps, stepsAnswer}
+use Rattle.walker.specs.Members.{members}
+use Rattle.planner.specs.Plan.{Plan, planOf}
+use Rattle.planner.specs.Report.{delivered}
+
+-- "At most 32 asked steps, 0 to 64 rounds"; "5 bad ... step, step count or rounds"
+abbrev pub limits : List ℕ → ℕ → Answer ℕ
+limits asked rounds = cond (ltb 64 rounds) (refused 5 0) (stepsAnswer 32 asked)
+
+abbrev pub question : List ℕ → List ℕ → List ℕ → ℕ → Answer ℕ
+question known asked target rounds = next (checkOf known) (next (checkOf target) (limits asked rounds))
+
+-- "12 table not in order", then the plan
+unfoldable pub planned : List Symbol → List ℕ → List ℕ → List ℕ → List ℕ → ℕ → ℕ → ℕ → ℕ → Answer Plan
+planned table store known asked target depth rounds room wide =
+    cond (inOrder table store)
+    (delivered room wide (planOf (members table store) (layers known) (steps asked) (layers target) depth rounds))
+    (refused 12 0)
+
+unfoldable pub planAnswer : List Symbol → List ℕ → List ℕ → List ℕ → List ℕ → ℕ → ℕ → ℕ → ℕ → Answer Plan
+planAnswer table store known asked target depth rounds room wide =
+    next (question known asked target rounds) (planned table store known asked target depth rounds room wide)

@@ -1,0 +1,12 @@
+// The planner.
+mod deliver;
+mod ending;
+mod entry;
+mod finish;
+mod plan;
+mod report;
+mod round;
+mod walk;
+
+pub use entry::autoderef;
+pub use report::Report;

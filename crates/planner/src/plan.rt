@@ -1,0 +1,124 @@
+use crate::deliver::refuse;
+use crate::report::Report;
+use crate::walk::walk;
+use forms::is_wellformed;
+use layers::Checked;
+use layers::check_type;
+use steps::check_steps;
+use tables::in_order;
+ghost use mathlib.Core.Path.{_≡_};
+ghost use mathlib.Core.Bool.{true};
+ghost use Prim.Native.Nat.{_≤_};
+ghost use lib.ListN.{length};
+ghost use Rattle.layers.specs.Answer.{ofChecked};
+ghost use Rattle.layers.proofs.Accepted.{Whole};
+ghost use Rattle.tables.specs.Rows.{readFrom};
+ghost use Rattle.planner.specs.Report as report;
+ghost use Rattle.planner.specs.Answers as answers;
+
+// The most asked steps, and the most rounds.
+const STEPS: u64 = 32;
+
+const ROUNDS: u64 = 64;
+
+fn check_limits(asked: &[u64], rounds: u64) -> Checked
+    ensures { λ r. ⌜ ofChecked r ≡ answers.limits (now (asked .entry)) rounds ⌝ }
+{
+    if rounds > ROUNDS {
+        return Checked::Refused {
+            number: 5,
+            place: 0,
+        };
+    }
+    check_steps(asked, STEPS)
+}
+
+// The checks of the types, the asked steps and the rounds.
+fn check_question(known: &[u64], asked: &[u64], target: &[u64], rounds: u64) -> Checked
+    ensures { λ r. ⌜ ofChecked r ≡ answers.question (now (known .entry)) (now (asked .entry)) (now (target .entry)) rounds ⌝ }
+{
+    match check_type(known) {
+        Checked::Refused { number, place } => Checked::Refused { number, place },
+        Checked::Good(_) => match check_type(target) {
+            Checked::Refused { number, place } => Checked::Refused { number, place },
+            Checked::Good(_) => check_limits(asked, rounds),
+        },
+    }
+}
+
+// The plan of a question that passed its checks.
+fn plan_checked<'a>(
+    flat: &[u64; 768],
+    count: usize,
+    store: &'a [u64],
+    known: &'a [u64],
+    asked: &[u64],
+    target: &'a [u64],
+    level: u8,
+    rounds: u64,
+    steps: &mut [u64],
+    ty: &mut [u64],
+) -> Report
+    requires { ⌜ Whole (now known) × Whole (now target) × (rounds ≤ 64) ⌝ }
+    ensures answer { λ r. ⌜ r ≡ report.told (answers.planned (readFrom (now (flat .entry)) 0 count) (now (store .entry)) (now (known .entry)) (now (asked .entry)) (now (target .entry)) level rounds (length (now (steps .entry))) (length (now (ty .entry)))) ⌝ }
+    ensures written { λ _. ⌜ now (steps .exit) ≡ report.stepsOver (answers.planned (readFrom (now (flat .entry)) 0 count) (now (store .entry)) (now (known .entry)) (now (asked .entry)) (now (target .entry)) level rounds (length (now (steps .entry))) (length (now (ty .entry)))) (now (steps .entry)) ⌝ }
+    ensures reported { λ _. ⌜ now (ty .exit) ≡ report.typeOver (answers.planned (readFrom (now (flat .entry)) 0 count) (now (store .entry)) (now (known .entry)) (now (asked .entry)) (now (target .entry)) level rounds (length (now (steps .entry))) (length (now (ty .entry)))) (now (ty .entry)) ⌝ }
+{
+    if !in_order(flat, count, store) {
+        return refuse(12, 0);
+    }
+    if !is_wellformed(known) {
+        return refuse(4, 0);
+    }
+    if !is_wellformed(target) {
+        return refuse(4, 0);
+    }
+    let mut buf = [0u64; 576];
+    walk(
+        flat,
+        count,
+        store,
+        known,
+        asked,
+        target,
+        level as u64,
+        rounds,
+        &mut buf,
+        steps,
+        ty,
+    )
+}
+
+// The plan of a question about a table that is given by its columns.
+pub(crate) fn plan<'a>(
+    flat: [u64; 768],
+    count: usize,
+    store: &'a [u64],
+    known: &'a [u64],
+    asked: &[u64],
+    target: &'a [u64],
+    level: u8,
+    rounds: u64,
+    steps: &mut [u64],
+    ty: &mut [u64],
+) -> Report
+    ensures answer { λ r. ⌜ r ≡ report.told (answers.planAnswer (readFrom flat 0 count) (now (store .entry)) (now (known .entry)) (now (asked .entry)) (now (target .entry)) level rounds (length (now (steps .entry))) (length (now (ty .entry)))) ⌝ }
+    ensures written { λ _. ⌜ now (steps .exit) ≡ report.stepsOver (answers.planAnswer (readFrom flat 0 count) (now (store .entry)) (now (known .entry)) (now (asked .entry)) (now (target .entry)) level rounds (length (now (steps .entry))) (length (now (ty .entry)))) (now (steps .entry)) ⌝ }
+    ensures reported { λ _. ⌜ now (ty .exit) ≡ report.typeOver (answers.planAnswer (readFrom flat 0 count) (now (store .entry)) (now (known .entry)) (now (asked .entry)) (now (target .entry)) level rounds (length (now (steps .entry))) (length (now (ty .entry)))) (now (ty .entry)) ⌝ }
+{
+    match check_question(known, asked, target, rounds) {
+        Checked::Refused { number, place } => refuse(number, place),
+        Checked::Good(_) => plan_checked(
+            &flat,
+            count,
+            store,
+            known,
+            asked,
+            target,
+            level,
+            rounds,
+            steps,
+            ty,
+        ),
+    }
+}

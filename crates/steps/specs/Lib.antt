@@ -1,0 +1,2 @@
+pub mod StepKind
+pub mod Steps

@@ -1,0 +1,27 @@
+use Rattle.turns.proofs.Decided.{line-i, line-ii, line-iii, line-iv, line-v, line-vi, line-vii}
+use borrow.Author.Needs.{needs}
+use Rattle.turns.proofs.settlement.settle.Statement.{statement}
+use Rattle.turns.proofs.settlement.settle.Tie as tie
+
+pub settle-spec : {M : Type 1} → statement M
+settle-spec =
+    tie.close
+    (tie.spec
+    (λ c κs. search needs)
+    (λ c κs. search needs)
+    (λ c κs. search needs)
+    (λ c. search line-i)
+    (λ c κs. search needs)
+    (λ c κs. search needs)
+    (λ c. search line-ii)
+    (λ c κs. search needs)
+    (λ c. search line-iii)
+    (λ c. search line-iv)
+    (λ c κs. search needs)
+    (λ c κs. search needs)
+    (λ c κs. search needs)
+    (λ c. search line-v)
+    (λ c κs. search needs)
+    (λ c. search line-vi)
+    (λ c κs. search needs)
+    (λ c. search line-vii))

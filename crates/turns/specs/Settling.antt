@@ -1,0 +1,81 @@
+-- "Settle current c, target t, depth n, first that applies".
+use mathlib.Core.Path.{_≡_}
+use mathlib.Core.Bool.{Bool, true, false, cond, _&&_}
+use mathlib.Core.List.{List, [], _∷_, _++_}
+use Prim.Native.Nat.{ℕ, zero, suc, _+_, _-_}
+use lib.Dec.{eqb, ltb, leb}
+use lib.ListN.{drop, replicate}
+use Rattle.kinds.specs.Kind as kind
+use Rattle.layers.specs.Layers.{Layer, layer, outer, inside}
+use Rattle.layers.specs.Answer.{Answer, given, refused}
+use Rattle.parts.specs.Parts.{references}
+use Rattle.sizes.specs.Depth.{pointerDepth}
+use Rattle.relations.specs.Relations.{identical}
+use Rattle.coercions.specs.Coercions.{coerces, addressCoerces}
+use Rattle.steps.specs.StepKind as of-step
+use Rattle.steps.specs.Steps.{Step, step}
+use Rattle.turns.specs.declared.settlement.Settling.{Settling}
+use Rattle.turns.specs.declared.settlement.Settling.the-variants as settling
+
+-- What the settling adds to a walk: further steps, the reported type, and two flags.
+pub record Settled : Type 0 where
+  pub steps : List Step
+  pub type : List Layer
+  pub address : Bool
+  pub coerced : Bool
+
+abbrev pub settled : List Step → List Layer → Bool → Bool → Settled
+settled ss c a b = record { steps = ss; type = c; address = a; coerced = b }
+
+abbrev pub pointer : Layer
+pointer = layer kind.pointer 0 0
+
+-- "an address adds one Pointer to it"
+abbrev pub byAddress : List Layer → Bool → Settled
+byAddress c b = settled [] (pointer ∷ c) true b
+
+-- "n=0, t of depth 0"
+abbrev pub plainly : List Layer → ℕ → Bool
+plainly t n = eqb n 0 && eqb (pointerDepth t) 0
+
+-- "c fully dereferenced under n Pointers, with p-n Autoderefs added"
+abbrev pub dereferenced : List Layer → ℕ → ℕ → Settled
+dereferenced c n p =
+    settled (replicate (p - n) (step of-step.autoderef 0 0 0)) (replicate n pointer ++ drop (references c) c) false false
+
+-- "(vii) p = depth of c: n≥p+2: 9; n=p+1: address; c a SlicePointer: 10; else ..."
+unfoldable pub settleOtherwise : List Layer → ℕ → ℕ → Answer Settled
+settleOtherwise c n p =
+    cond (leb (p + 2) n) (refused 9 0)
+    (cond (eqb n (p + 1)) (given (byAddress c false))
+    (cond (eqb (outer c) kind.slicePointer) (refused 10 0)
+    (given (dereferenced c n p))))
+
+unfoldable pub settle : List Layer → List Layer → ℕ → Answer Settled
+settle c t n =
+    -- "(i) n=0, t of depth 0, c identical to t."
+    cond (plainly t n && identical c t) (given (settled [] c false false))
+    -- "(ii) same n and t, c a View of t: Autoview, type t."
+    (cond (plainly t n && eqb (outer c) kind.view && identical (inside c) t)
+    (given (settled (step of-step.autoview 0 0 0 ∷ []) t false false))
+    -- "(iii) same n and t, c coerces into t: coerced."
+    (cond (plainly t n && coerces c t) (given (settled [] c false true))
+    -- "(iv) n=1, c a SlicePointer identical to t."
+    (cond (eqb n 1 && eqb (outer c) kind.slicePointer && identical c t) (given (settled [] c false false))
+    -- "(v) n>0, t points to c: address."
+    (cond (ltb 0 n && eqb (outer t) kind.pointer && identical (inside t) c) (given (byAddress c false))
+    -- "(vi) n>0, c address coerces into t: address, coerced."
+    (cond (ltb 0 n && addressCoerces c t) (given (byAddress c true))
+    (settleOtherwise c n (pointerDepth c)))))))
+
+-- What each outcome of the code is, of the current type c, the target t and the depth n.
+abbrev pub ofSettling : Settling → List Layer → List Layer → ℕ → Answer Settled
+ofSettling (settling.Kept b) c t n = given (settled [] c false b)
+ofSettling settling.Viewed c t n = given (settled (step of-step.autoview 0 0 0 ∷ []) t false false)
+ofSettling (settling.Addressed b) c t n = given (byAddress c b)
+ofSettling settling.Dereferenced c t n = given (dereferenced c n (pointerDepth c))
+ofSettling (settling.Refused k) c t n = refused k 0
+
+-- What the last line promises, whatever the target is.
+abbrev pub Otherwise : Settling → List Layer → ℕ → Type 0
+Otherwise r c n = (t : List Layer) → ofSettling r c t n ≡ settleOtherwise c n (pointerDepth c)

@@ -1,0 +1,3 @@
+pub mod Walker
+pub mod Members
+pub mod Moves

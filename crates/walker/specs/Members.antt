@@ -1,0 +1,36 @@
+-- "Member from Struct or Word to the table's type": what a table has of a member. "A member is found by its id alone".
+use mathlib.Core.Bool.{cond}
+use mathlib.Core.List.{List, [], _∷_}
+use Prim.Native.Nat.{ℕ, _*_}
+use lib.Dec.{eqb, ltb}
+use lib.ListN.{take, drop, getD}
+use Rattle.layers.specs.Layers.{Layer, layers}
+use Rattle.tables.specs.declared.symbol.Symbol.{Symbol}
+use Rattle.tables.specs.Rows.{vacant, readFrom}
+use Rattle.tables.specs.Order.{typed, slotFor}
+use Rattle.steps.specs.StepKind as of-step
+use Rattle.walker.specs.Walker as walker
+use Rattle.walker.specs.Walker.{Stored}
+
+-- The words of the record's type, which stand first in its part of the store; a poisoned record has none.
+abbrev pub wordsAt : Symbol → List ℕ → List ℕ
+wordsAt s ws = cond (typed s) (take (s .layers * 3) ws) []
+
+-- The words of the type that is stored under an id; none where it is absent or poisoned.
+unfoldable pub memberWords : List Symbol → List ℕ → ℕ → List ℕ
+memberWords table store id = wordsAt (getD table (slotFor id table) vacant) (drop (slotFor id table * 48) store)
+
+-- The same of columns: of more than 128 rows, none.
+unfoldable pub memberIn : List ℕ → ℕ → List ℕ → ℕ → List ℕ
+memberIn ws n store id = cond (ltb 128 n) [] (memberWords (readFrom ws 0 n) store id)
+
+-- The same where the step is a Member; else none.
+unfoldable pub askedIn : List ℕ → ℕ → List ℕ → ℕ → ℕ → List ℕ
+askedIn ws n store kind id = cond (eqb kind of-step.member) (memberIn ws n store id) []
+
+abbrev pub ofLayers : List Layer → Stored
+ofLayers [] = walker.absent
+ofLayers (x ∷ t) = walker.typed (x ∷ t)
+
+unfoldable pub members : List Symbol → List ℕ → ℕ → Stored
+members table store id = ofLayers (layers (memberWords table store id))

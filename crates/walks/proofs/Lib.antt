@@ -1,0 +1,5 @@
+-- What the proofs of several functions use, and what follows from the definitions.
+pub mod Arriving
+pub mod Stepping
+pub mod Theorems
+pub mod Single

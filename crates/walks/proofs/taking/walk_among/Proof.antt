@@ -1,0 +1,22 @@
+use Rattle.walks.proofs.Stepping.{tells-same, tells-refused, no-type, no-steps, checked, type-few, type-threes, steps-fours}
+use borrow.Author.Needs.{needs}
+use Rattle.walks.proofs.taking.walk_among.Statement.{statement}
+use Rattle.walks.proofs.taking.walk_among.Tie as tie
+
+pub walk-among-spec : {M : Type 1} → statement M
+walk-among-spec =
+    tie.close
+    (tie.spec
+    (λ c κs. search needs)
+    (λ c. search needs)
+    (λ c κs. search needs)
+    (λ c. search needs)
+    (λ c κs. search needs)
+    (λ c. search needs)
+    (λ c κs. search needs)
+    (λ c. search needs)
+    (λ c κs. ((search type-few, search type-threes), search steps-fours))
+    (λ c. tells-refused _ _ _ _ _ (c .refused .ensures) (search no-type))
+    (λ c. tells-refused _ _ _ _ _ (c .refused2 .ensures) (search no-steps))
+    (λ c. search needs)
+    (λ c. tells-same _ _ _ _ _ (c .before .before .walk-ordered .ensures) (search checked)))

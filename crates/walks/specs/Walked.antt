@@ -1,0 +1,63 @@
+-- The plain walker at work: "takes the steps, 128 at most, from the known type, then the address where address is set."
+use mathlib.Core.Bool.{Bool, cond}
+use mathlib.Core.List.{List, [], _∷_}
+use Prim.Native.Nat.{ℕ, _+_}
+use lib.Dec.{ltb}
+use lib.ListN.{length}
+use Rattle.kinds.specs.Kind as kind
+use Rattle.layers.specs.Layers.{Layer, layer, layers, spelled}
+use Rattle.layers.specs.Answer.{Answer, given, nothing, refused, next}
+use Rattle.layers.specs.Check.{checkOf}
+use Rattle.buffers.specs.Written.{written}
+use Rattle.tables.specs.declared.symbol.Symbol.{Symbol}
+use Rattle.tables.specs.Order.{inOrder}
+use Rattle.steps.specs.Steps.{Step, steps, stepsAnswer}
+use Rattle.walker.specs.Walker.{Where, at, stuck, Stored, act}
+use Rattle.walker.specs.Members.{members}
+
+-- "8 with the step as place where it sticks": p is the place of the next step.
+abbrev pub unlessStuck : Where → ℕ → (List Layer → Answer (List Layer)) → Answer (List Layer)
+unlessStuck (at t) p f = f t
+unlessStuck stuck p f = refused 8 p
+
+unfoldable pub walkedFrom : (ℕ → Stored) → ℕ → List Step → List Layer → Answer (List Layer)
+walkedFrom stored p [] t = given t
+walkedFrom stored p (s ∷ ss) t = unlessStuck (act stored s t) p (walkedFrom stored (p + 1) ss)
+
+-- "then the address where address is set"; "15 result over 16 layers"
+abbrev pub addressed : Bool → List Layer → List Layer
+addressed address t = cond address (layer kind.pointer 0 0 ∷ t) t
+
+unfoldable pub arrived : Bool → List Layer → Answer (List Layer)
+arrived address t = cond (ltb 16 (length (addressed address t))) (refused 15 0) (given (addressed address t))
+
+-- A refusal stands; else what follows of the value.
+abbrev pub andThen : Answer (List Layer) → (List Layer → Answer (List Layer)) → Answer (List Layer)
+andThen (given t) f = f t
+andThen nothing f = nothing
+andThen (refused n p) f = refused n p
+
+unfoldable pub walkFrom : List ℕ → List ℕ → Bool → List Symbol → List ℕ → Answer (List Layer)
+walkFrom known ss address table store =
+    andThen (walkedFrom (members table store) 0 (steps ss) (layers known)) (arrived address)
+
+-- "12 table not in order"
+unfoldable pub walkOrdered : List ℕ → List ℕ → Bool → List Symbol → List ℕ → Answer (List Layer)
+walkOrdered known ss address table store = cond (inOrder table store) (walkFrom known ss address table store) (refused 12 0)
+
+-- "Refusals in this order: the known type's 1 to 3, 5 for the steps, 12; 8 ...; 15 for the address".
+unfoldable pub walkTo : List ℕ → List ℕ → Bool → List Symbol → List ℕ → Answer (List Layer)
+walkTo known ss address table store =
+    next (checkOf known) (next (stepsAnswer 128 ss) (walkOrdered known ss address table store))
+
+-- "14 output too short for this result"; else how many words the type has.
+unfoldable pub delivered : ℕ → Answer (List Layer) → Answer ℕ
+delivered room (given t) = cond (ltb room (length (spelled t))) (refused 14 0) (given (length (spelled t)))
+delivered room nothing = nothing
+delivered room (refused n p) = refused n p
+
+-- "A result is written from the output's first word; the rest is kept."
+unfoldable pub over : Answer (List Layer) → List ℕ → List ℕ
+over (given t) b = written (spelled t) b
+over nothing b = b
+over (refused n p) b = b

@@ -1,0 +1,24 @@
+use crate::taking::walk_among;
+use answers::Answer;
+use tables::Symbol;
+use tables::gather;
+ghost use mathlib.Core.Path.{_≡_};
+ghost use lib.ListN.{length};
+ghost use Rattle.answers.specs.Flat.{flat};
+ghost use Rattle.walks.specs.Walked as rules;
+
+// Takes the steps from the known type, then the address where it is asked for, and writes the type that is reached.
+pub fn walk<'a>(
+    known: &'a [u64],
+    steps: &[u64],
+    address: bool,
+    table: &[Symbol],
+    store: &'a [u64],
+    out: &mut [u64],
+) -> Answer
+    ensures { λ r. ⌜ (r ≡ flat (rules.delivered (length (now (out .entry))) (rules.walkTo (now (known .entry)) (now (steps .entry)) address (now (table .entry)) (now (store .entry)))))
+        × (now (out .exit) ≡ rules.over (rules.walkTo (now (known .entry)) (now (steps .entry)) address (now (table .entry)) (now (store .entry))) (now (out .entry))) ⌝ }
+{
+    let columns = gather(table);
+    walk_among(columns, table.len(), known, steps, address, store, out)
+}

@@ -1,0 +1,6 @@
+// The plain walker at work: it takes steps in a row and tells where it arrived.
+mod arrival;
+mod entry;
+mod taking;
+
+pub use entry::walk;

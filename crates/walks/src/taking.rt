@@ -1,0 +1,102 @@
+use crate::arrival::arrive;
+use answers::Answer;
+use answers::refused;
+use layers::Checked;
+use layers::check_type;
+use parts::inner;
+use parts::outer;
+use steps::check_steps;
+use tables::in_order;
+use walker::asked_member;
+use walker::go;
+use walker::is_desliced;
+use walker::is_stuck;
+use walker::kind_of;
+use walker::move_of;
+ghost use mathlib.Core.Path.{_≡_};
+ghost use mathlib.Core.Bool.{true};
+ghost use Prim.Native.Nat.{_%_};
+ghost use lib.ListN.{length};
+ghost use Rattle.tables.specs.Rows.{readFrom};
+ghost use Rattle.tables.specs.Order.{inOrder};
+ghost use Rattle.answers.specs.Flat.{flat};
+ghost use Rattle.walker.specs.Moves.{Whole};
+ghost use Rattle.walks.specs.Walked as rules;
+
+// The most steps that the walker takes.
+const MOST: u64 = 128;
+
+// Takes the steps, one after the other, and arrives.
+fn take_steps<'a>(
+    columns: &[u64; 768],
+    n: usize,
+    known: &'a [u64],
+    steps: &[u64],
+    address: bool,
+    store: &'a [u64],
+    out: &mut [u64],
+) -> Answer
+    requires { ⌜ Whole (now known) × ((length (now steps) % 4 ≡ 0) × (inOrder (readFrom (now columns) 0 n) (now store) ≡ true)) ⌝ }
+    ensures answer { λ r. ⌜ r ≡ flat (rules.delivered (length (now (out .entry))) (rules.walkFrom (now (known .entry)) (now (steps .entry)) address (readFrom (now (columns .entry)) 0 n) (now (store .entry)))) ⌝ }
+    ensures written { λ _. ⌜ now (out .exit) ≡ rules.over (rules.walkFrom (now (known .entry)) (now (steps .entry)) address (readFrom (now (columns .entry)) 0 n) (now (store .entry))) (now (out .entry)) ⌝ }
+{
+    let mut cur = known;
+    let mut desliced = false;
+    let mut at = 0;
+    while at < steps.len() {
+        let stored = asked_member(columns, n, store, steps[at], steps[at + 1]);
+        let k = kind_of(cur, desliced);
+        let l = outer(inner(cur));
+        let m = move_of(steps[at], steps[at + 2], k, l, stored.len() >= 3);
+        if is_stuck(m) {
+            return refused(8, (at / 4) as u64);
+        }
+        let next = go(m, cur, stored);
+        cur = next;
+        desliced = is_desliced(m);
+        at += 4;
+    }
+    arrive(out, cur, desliced, address)
+}
+
+// The walk with a table in columns, once the type and the steps are checked.
+fn walk_ordered<'a>(
+    columns: &[u64; 768],
+    n: usize,
+    known: &'a [u64],
+    steps: &[u64],
+    address: bool,
+    store: &'a [u64],
+    out: &mut [u64],
+) -> Answer
+    requires { ⌜ Whole (now known) × (length (now steps) % 4 ≡ 0) ⌝ }
+    ensures answer { λ r. ⌜ r ≡ flat (rules.delivered (length (now (out .entry))) (rules.walkOrdered (now (known .entry)) (now (steps .entry)) address (readFrom (now (columns .entry)) 0 n) (now (store .entry)))) ⌝ }
+    ensures written { λ _. ⌜ now (out .exit) ≡ rules.over (rules.walkOrdered (now (known .entry)) (now (steps .entry)) address (readFrom (now (columns .entry)) 0 n) (now (store .entry))) (now (out .entry)) ⌝ }
+{
+    if in_order(columns, n, store) {
+        return take_steps(columns, n, known, steps, address, store, out);
+    }
+    refused(12, 0)
+}
+
+// The walk with a table in columns.
+pub(crate) fn walk_among<'a>(
+    columns: [u64; 768],
+    n: usize,
+    known: &'a [u64],
+    steps: &[u64],
+    address: bool,
+    store: &'a [u64],
+    out: &mut [u64],
+) -> Answer
+    ensures { λ r. ⌜ (r ≡ flat (rules.delivered (length (now (out .entry))) (rules.walkTo (now (known .entry)) (now (steps .entry)) address (readFrom columns 0 n) (now (store .entry)))))
+        × (now (out .exit) ≡ rules.over (rules.walkTo (now (known .entry)) (now (steps .entry)) address (readFrom columns 0 n) (now (store .entry))) (now (out .entry))) ⌝ }
+{
+    match check_type(known) {
+        Checked::Refused { number, place } => refused(number, place),
+        Checked::Good(_) => match check_steps(steps, MOST) {
+            Checked::Refused { number, place } => refused(number, place),
+            Checked::Good(_) => walk_ordered(&columns, n, known, steps, address, store, out),
+        },
+    }
+}
