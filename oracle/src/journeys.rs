@@ -3,8 +3,8 @@
 
 use crate::planning::*;
 use crate::random::Random;
-use crate::symbols::{Symbol, FREE, PART};
-use crate::types::{damaged, good_type, relative, words};
+use crate::symbols::{taken, Symbol, FREE, PART};
+use crate::types::{coerced, damaged, good_type, relative, words};
 use crate::words::*;
 
 pub struct Journey {
@@ -36,19 +36,17 @@ fn leading(random: &mut Random) -> Vec<Layer> {
         true => vec![[POINTER, 0, 0]; random.below(most)],
         false => {
             let mut t = good_type(random, most);
-            for _ in 0..6 {
-                if !decode(&t).is_wellformed() {
-                    t = good_type(random, most);
-                }
+            while !decode(&t).is_wellformed() && !random.once_in(200) {
+                t = good_type(random, most);
             }
             t.pop();
             t
         }
     };
-    t.push(match random.below(8) {
+    t.push(match random.below(24) {
         0 => [INT8, 0, 0],
         1 => [CHAR8, 0, 0],
-        2 => [WORD, 1, 8],
+        2..=8 => [WORD, 1, 8],
         _ => [STRUCT, 1, 0],
     });
     t
@@ -67,7 +65,7 @@ fn records(random: &mut Random, first: u32) -> (Vec<Symbol>, Vec<u64>) {
     for slot in 0..taken {
         let t = words(&leading(random));
         store[PART * slot..PART * slot + t.len()].copy_from_slice(&t);
-        let state = if random.once_in(20) { 2 } else { 1 };
+        let state = if random.once_in(60) { 2 } else { 1 };
         table[slot] = Symbol {
             id: first + slot as u32,
             authority: random.once_in(2),
@@ -105,8 +103,11 @@ fn fitting(
         .collect();
     match stripped[0][0] {
         STRUCT | WORD => {
-            let some = 1 + random.below(members.table.len().max(1));
-            let id = u64::from(first) + some as u64 - 1;
+            let count = match random.once_in(60) {
+                true => members.table.len() + 1,
+                false => taken(&members.table).max(1),
+            };
+            let id = u64::from(first) + random.below(count) as u64;
             let step = match random.once_in(3) {
                 true => [MEMBER, id, 1, random.next()],
                 false => [MEMBER, id, 0, 0],
@@ -132,7 +133,7 @@ pub fn journey(random: &mut Random) -> Journey {
     let mut steps = Vec::new();
     let most = random.pick(&[0, 1, 2, 4, 8, MOST_ASKED]);
     while steps.len() < 4 * most {
-        if random.once_in(60) {
+        if random.once_in(200) {
             steps.extend(any_step(random));
         }
         match fitting(random, &current, first, &members) {
@@ -145,9 +146,9 @@ pub fn journey(random: &mut Random) -> Journey {
     }
     steps.truncate(4 * most);
     let target = target(random, &current);
-    let depth = match random.once_in(3) {
+    let depth = match random.once_in(10) {
         true => random.below(18) as u8,
-        false => random.pick(&[0, 0, 0, 1, 1, 2, 3, 255]),
+        false => random.pick(&[0, 0, 0, 0, 1, 1, 1, 2, 3, 255]),
     };
     let rounds = random.pick(&[0, 1, 2, 63, 64, 64, 64, 64, 64, 64, 64, 64]);
     let mut made = Journey {
@@ -167,11 +168,12 @@ pub fn journey(random: &mut Random) -> Journey {
 
 /// A type that the settling looks at when the walk ends on this one.
 fn target(random: &mut Random, current: &[Layer]) -> Vec<Layer> {
-    let t = match random.below(6) {
+    let t = match random.below(7) {
         0 => current.to_vec(),
         1 => [&[[POINTER, 0, 0]], current].concat(),
         2 if current.len() > 1 => current[1..].to_vec(),
         3 => leading(random),
+        4 => coerced(random, current),
         _ => relative(random, current),
     };
     match t.len() <= 16 && decode(&t).is_wellformed() {

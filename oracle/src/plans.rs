@@ -13,6 +13,8 @@ use crate::words::*;
 struct Plans {
     plan: Row,
     walk: Row,
+    /// How often each number was told.
+    numbers: [[u64; 18]; 2],
     given: u64,
     arrived: u64,
     excepted: u64,
@@ -83,6 +85,7 @@ impl Plans {
     fn ask_into(&mut self, asked: &Asked, judged: &Result<Planned, Refusal>, rooms: [usize; 2]) {
         let expected = plan_told(judged, rooms);
         let found = plan_face::plan(asked, rooms);
+        self.numbers[0][expected.fields[0] as usize] += 1;
         count(&mut self.plan, &expected, &found, || told(asked));
     }
 
@@ -112,6 +115,7 @@ impl Plans {
         let room = judged.as_ref().map_or(5, |t| t.len() + 2) - short;
         let expected = walk_told(&judged, room);
         let found = plan_face::walk(known, steps, address, members, room);
+        self.numbers[1][expected.fields[0] as usize] += 1;
         count(&mut self.walk, &expected, &found, || {
             let table = table_told(members);
             format!(
@@ -142,19 +146,30 @@ pub fn compare(scale: u64, random: &mut Random) -> Vec<Row> {
     let mut plans = Plans {
         plan: row("autoderef"),
         walk: row("walk"),
+        numbers: [[0; 18]; 2],
         given: 0,
         arrived: 0,
         excepted: 0,
     };
     small(&mut plans);
     small_walks(&mut plans);
+    long(&mut plans);
     for _ in 0..scale * 60_000 {
         along(&mut plans, &journey(random), random);
     }
     println!(
-        "{} plans given: the walker arrives at the reported type of {}, {} are of the exception\n",
+        "{} plans given: the walker arrives at the reported type of {}, {} are of the exception",
         plans.given, plans.arrived, plans.excepted
     );
+    for (name, numbers) in ["autoderef", "walk"].iter().zip(plans.numbers) {
+        let told = |number: &usize| numbers[*number] > 0;
+        let told = (1..18).filter(told).map(|n| format!("{n}: {}", numbers[n]));
+        println!(
+            "refusals of {name}: {}",
+            told.collect::<Vec<_>>().join(", ")
+        );
+    }
+    println!();
     vec![plans.plan, plans.walk]
 }
 
@@ -248,8 +263,8 @@ fn small_types() -> Vec<Vec<u64>> {
 
 const DEPTHS: [u8; 5] = [0, 1, 2, 3, 255];
 
-/// Without asked steps every pair of small types; with one or two, every small type and few targets.
-/// Every depth; few rounds where the target is one.
+/// Without asked steps every pair of small types; with one or two, every small type and, where the
+/// walk is not refused, few targets.
 fn small(plans: &mut Plans) {
     let (types, members) = (small_types(), few_members());
     for known in &types {
@@ -282,9 +297,41 @@ fn small(plans: &mut Plans) {
     ];
     for known in &types {
         for steps in &small_steps()[1..] {
-            for (place, target) in targets.iter().enumerate() {
-                let few: &[u64] = if place == 0 { &[0, 1, 2, 3, 64] } else { &[64] };
-                ask_depths(plans, known, steps, &words(target), few, &members);
+            ask_depths(plans, known, steps, &INT32, &[0, 1, 2, 3], &members).ok();
+            for target in targets {
+                let refusal = ask_depths(plans, known, steps, &words(target), &[64], &members);
+                if matches!(refusal, Err((4 | 8 | 11, _))) {
+                    break;
+                }
+            }
+        }
+    }
+}
+
+/// Pointers to Arrays, 15 and 16 layers in all, at every depth that one of them can have: an address
+/// of 16 layers is over the limit.
+fn long(plans: &mut Plans) {
+    let members = few_members();
+    for layers in [15, 16] {
+        for pointers in 0..layers {
+            let mut known = vec![[POINTER, 0, 0]; pointers];
+            known.resize(layers - 1, [ARRAY, 0, 3]);
+            known.push(INT32);
+            let mut slice = known.clone();
+            slice[0] = [SLICE_POINTER, 0, 0];
+            for target in [vec![INT32], known.clone(), slice] {
+                for depth in 0..=17 {
+                    let asked = Asked {
+                        known: &words(&known),
+                        steps: &[],
+                        target: &words(&target),
+                        depth,
+                        rounds: 64,
+                        members: &members,
+                    };
+                    let judged = plans.ask(&asked);
+                    plans.ask_tightly(&asked, &judged);
+                }
             }
         }
     }
@@ -304,6 +351,7 @@ fn small_walks(plans: &mut Plans) {
     }
 }
 
+/// Every depth; the last answer. What refuses the walk looks at no depth.
 fn ask_depths(
     plans: &mut Plans,
     known: &[u64],
@@ -311,7 +359,8 @@ fn ask_depths(
     target: &[u64],
     rounds: &[u64],
     members: &Members,
-) {
+) -> Result<(), Refusal> {
+    let mut last = Ok(());
     for depth in DEPTHS {
         for rounds in rounds {
             let asked = Asked {
@@ -322,9 +371,10 @@ fn ask_depths(
                 rounds: *rounds,
                 members,
             };
-            plans.ask(&asked).ok();
+            last = plans.ask(&asked).map(|_| ());
         }
     }
+    last
 }
 
 /// A random question, outputs too short, and walks along its steps, the plan's and others.
