@@ -32,10 +32,10 @@ const OFFERED: [&[u64]; 4] = [
 ];
 
 pub fn compare(rows: &mut Rows, scale: u64, random: &mut Random) {
-    let bad = spoiled_chains();
-    let bad: Vec<&[u64]> = bad.iter().map(|t| &t[..]).collect();
+    let chains = spoiled_chains();
+    alone(rows, &chains);
+    let bad: Vec<&[u64]> = chains.iter().map(|chain| &chain[..]).collect();
     let bad: Vec<&[u64]> = bad.into_iter().filter(|t| check(t).is_err()).collect();
-    alone(rows, &bad);
     for records in (0..=4).chain([127, 128]) {
         for taken in 0..=records {
             if records > 4 && ![0, 1, 100, records].contains(&taken) {
@@ -159,9 +159,9 @@ fn spoiled(lent: &Lent, random: &mut Random, bad: &[&[u64]]) -> Vec<(Vec<Symbol>
     all
 }
 
-/// Lone symbols: words of every other count up to 100, every state but typed and poisoned, counts of
-/// layers that are none, and words that are no type.
-fn alone(rows: &mut Rows, bad: &[&[u64]]) {
+/// Lone symbols: words of every other count up to 100, other states, counts of layers that are none,
+/// and words, some of them no type, in each state.
+fn alone(rows: &mut Rows, chains: &[Vec<u64>]) {
     let typed = Symbol {
         id: 1,
         authority: true,
@@ -191,9 +191,16 @@ fn alone(rows: &mut Rows, bad: &[&[u64]]) {
     for layers in COUNTS {
         ask(Symbol { layers, ..typed }, &words);
     }
-    for chain in bad {
+    for chain in chains {
         let layers = chain.len() as u64 / 3;
-        let other = [*chain, &words[chain.len()..]].concat();
-        ask(Symbol { layers, ..typed }, &other);
+        let other = [chain, &words[chain.len()..]].concat();
+        for state in 0..=2 {
+            let symbol = Symbol {
+                state,
+                layers,
+                ..typed
+            };
+            ask(symbol, &other);
+        }
     }
 }

@@ -30,6 +30,7 @@ pub fn script(text: &str) -> String {
         let arguments: Vec<&str> = rest[..rest.len() - 1].split(", ").collect();
         host.follow(command, &arguments);
     }
+    assert!(host.judge.agrees(), "what was set by hand must be set back");
     host.lines
 }
 

@@ -78,7 +78,7 @@ module _ (ws : List ℕ) (n : ℕ) (store known asked target : List ℕ) (level 
       planned-so i = rw (ok, ← p, not-false f g, ← q, not-false u i, same-members) refl
 
 -- a question that passed its checks
-passed : {A : Type 0} (ws : List ℕ) (c : Answer A) (i : A) → next (checkOf ws) c ≡ given i → (checkOf ws ≡ given (length ws / 3)) × (c ≡ given i)
+pub passed : {A : Type 0} (ws : List ℕ) (c : Answer A) (i : A) → next (checkOf ws) c ≡ given i → (checkOf ws ≡ given (length ws / 3)) × (c ≡ given i)
 unfolding checkOf
 passed {A} ws c i e = by-count (badCount (length ws)) (badLayer 0 (layers ws)) (misplaced 0 (layers ws)) e
   where

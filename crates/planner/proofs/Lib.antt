@@ -12,4 +12,8 @@ pub mod Finishing
 pub mod Turning
 pub mod Outcomes
 pub mod Asking
+pub mod Answered
+pub mod Carried
+pub mod Single
 pub mod Table
+pub mod Surprises

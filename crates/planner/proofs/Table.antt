@@ -20,13 +20,13 @@ use Rattle.walker.specs.Walker.{Stored, absent}
 use Rattle.planner.specs.Walk.{walk}
 use Rattle.planner.specs.Plan.{Plan, planOf}
 
-abbrev leaf : ℕ → List Layer
+abbrev pub leaf : ℕ → List Layer
 leaf k = layer k 0 0 ∷ []
 
-abbrev of : ℕ → List Layer → List Layer
+abbrev pub of : ℕ → List Layer → List Layer
 of k t = layer k 0 0 ∷ t
 
-abbrev int32 : List Layer
+abbrev pub int32 : List Layer
 int32 = leaf kind.int32
 
 abbrev char8 : List Layer
@@ -42,11 +42,11 @@ array3 = layer kind.array 0 3 ∷ int32
 abbrev asked-element : ℕ → Step
 asked-element a = step of-step.element a of-step.unknown 0
 
-abbrev plan : List Step → ℕ → List Layer → Bool → Bool → Answer Plan
+abbrev pub plan : List Step → ℕ → List Layer → Bool → Bool → Answer Plan
 plan ss k t a b = given (record { steps = ss; taken = k; type = t; address = a; coerced = b })
 
 -- No table: no line has a Member.
-abbrev planned : List Layer → List Step → List Layer → ℕ → ℕ → Answer Plan
+abbrev pub planned : List Layer → List Step → List Layer → ℕ → ℕ → Answer Plan
 planned known q target depth rounds = planOf (λ id. absent) known q target depth rounds
 
 pub record Table : Type 0 where

@@ -3,11 +3,11 @@ use mathlib.Core.Bool.{false, cond, _||_}
 use mathlib.Core.List.{List}
 use Prim.Native.Nat.{ℕ, _*_}
 use lib.Dec.{ltb}
-use lib.ListN.{length}
-use Rattle.layers.specs.Layers.{spelled}
+use lib.ListN.{length, take}
+use Rattle.layers.specs.Layers.{layers, spelled}
 use Rattle.layers.specs.Answer.{Answer, given, nothing, refused}
 use Rattle.buffers.specs.Written.{written}
-use Rattle.steps.specs.Steps.{stepWords}
+use Rattle.steps.specs.Steps.{steps, stepWords}
 use Rattle.planner.specs.declared.report.Report.{Report}
 use Rattle.planner.specs.Plan.{Plan}
 
@@ -46,3 +46,14 @@ unfoldable pub typeOver : Answer Plan → List ℕ → List ℕ
 typeOver (given p) b = written (spelled (p .type)) b
 typeOver nothing b = b
 typeOver (refused n q) b = b
+
+-- The plan that stands in a report and in the two outputs: so many steps, and so many layers, from the first words on.
+abbrev pub planRead : Report → List ℕ → List ℕ → Plan
+planRead r b c =
+    record {
+      steps = steps (take (4 * r .steps) b);
+      taken = r .taken;
+      type = layers (take (3 * r .layers) c);
+      address = r .address;
+      coerced = r .coerced;
+    }

@@ -1,4 +1,4 @@
-use crate::plan::plan;
+use crate::plan::plan_among;
 use crate::report::Report;
 use tables::Symbol;
 use tables::gather;
@@ -24,7 +24,7 @@ pub fn autoderef<'a>(
         × (now (ty .exit) ≡ report.typeOver (answers.planAnswer (now (table .entry)) (now (store .entry)) (now (known .entry)) (now (asked .entry)) (now (target .entry)) level rounds (length (now (steps .entry))) (length (now (ty .entry)))) (now (ty .entry))) ⌝ }
 {
     let columns = gather(table);
-    plan(
+    plan_among(
         columns,
         table.len(),
         store,

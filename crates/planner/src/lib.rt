@@ -9,4 +9,5 @@ mod round;
 mod walk;
 
 pub use entry::autoderef;
+pub use plan::plan_among;
 pub use report::Report;

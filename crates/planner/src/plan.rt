@@ -89,8 +89,8 @@ fn plan_checked<'a>(
     )
 }
 
-// The plan of a question about a table that is given by its columns.
-pub(crate) fn plan<'a>(
+// The plan of a question about a table that is given by its columns, as gather makes them.
+pub fn plan_among<'a>(
     flat: [u64; 768],
     count: usize,
     store: &'a [u64],

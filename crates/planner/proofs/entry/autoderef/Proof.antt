@@ -54,10 +54,10 @@ use Rattle.planner.specs.Answers.{planAnswer}
 use Rattle.planner.proofs.Asking.{plan-same}
 use Rattle.planner.proofs.report.Report as B
 use Rattle.planner.proofs.report.Report.Laws as B′
-use Rattle.planner.proofs.plan.plan as core
-use Rattle.planner.proofs.plan.plan.Symbol as core-def
-use Rattle.planner.proofs.plan.plan.Symbol.{name as #plan}
-use Rattle.planner.proofs.plan.plan.Met as core-thm
+use Rattle.planner.proofs.plan.plan_among as core
+use Rattle.planner.proofs.plan.plan_among.Symbol as core-def
+use Rattle.planner.proofs.plan.plan_among.Symbol.{name as #plan-among}
+use Rattle.planner.proofs.plan.plan_among.Met as core-thm
 use Rattle.planner.proofs.entry.autoderef.Key.{name as #autoderef}
 use Rattle.planner.proofs.entry.autoderef as f
 use Rattle.planner.proofs.entry.autoderef.Statement as stated
@@ -205,7 +205,7 @@ module _ {M : Type 1} (𝓤 : URA M) (H : Heap 𝓤) (A : Atoms 𝓤) (W : Given
       move ! (1 ∷ 0 ∷ []) $ fjoin ! $ move ! (1 ∷ 0 ∷ []) $ fjoin ! $ move ! (1 ∷ 0 ∷ []) $ fjoin ! $ move ! (1 ∷ 0 ∷ []) $ fjoin ! $
       owned ! usize (Is usize) (uint-makes 𝓤 H A W w64) n _ (refl, room .0) $ fjoin ! $ move ! (2 ∷ 0 ∷ []) $ fjoin ! $ move ! (1 ∷ 0 ∷ []) $ join ! $ frame ! $ done !
 
-  module _ (C : Calls 𝓤 H) (Λ : Loops 𝓤 H) (fm : FmC 𝓤 H (W .laws) C) (known-gather : Triple 𝓤 (C #gather) (Gather 𝓤 H A at-mem run)) (known-core : Triple 𝓤 (C #plan) (Core 𝓤 H A at-mem run)) where
+  module _ (C : Calls 𝓤 H) (Λ : Loops 𝓤 H) (fm : FmC 𝓤 H (W .laws) C) (known-gather : Triple 𝓤 (C #gather) (Gather 𝓤 H A at-mem run)) (known-core : Triple 𝓤 (C #plan-among) (Core 𝓤 H A at-mem run)) where
     walk : ent 𝓤 (onEntry 𝓤 H A f.signature (κ₀, (κ₁, (κ, (κ₂, (κ₃, tt))))) (q₀, (q₁, (q, (q₂, (q₃, tt))))) a vals) (WpFn 𝓤 H C Λ code.function (s₁ ∷ s₂ ∷ s₃ ∷ vint w8 d ∷ vint w64 m ∷ s ∷ s₄ ∷ s₅ ∷ s₆ ∷ []) Post)
     walk =
         qed W (TT ∷ ‵ (owns (ShrSlice (named 0) κ₀ u64 ∷ ShrSlice (named 1) κ₁ u64 ∷ ShrSlice (named 0) κ₀ u64 ∷ u8 ∷ u64 ∷ ShrSlice (named 2) κ R.the-row ∷ ShrSlice (named 0) κ₀ u64 ∷ MutSlice (named 3) κ₂ u64 ∷ MutSlice (named 4) κ₃ u64 ∷ []) a vals) ∷ []) ∵
@@ -381,7 +381,7 @@ module _ {M : Type 1} (𝓤 : URA M) (H : Heap 𝓤) (A : Atoms 𝓤) (W : Given
         by ! (exits r (zs .1 .1 .1 .1 .1 .1 .1 .1 .0) (zs .1 .1 .1 .1 .1 .1 .1 .1 .1 .0) (subst (λ (vs : List Val). Is B.the-row r vs) (LL.tells B.the-type B′.the-laws r (w′ ∷ []) is) is) (on-table ws rows r (zs .1 .1 .1 .1 .1 .1 .1 .1 .0) (zs .1 .1 .1 .1 .1 .1 .1 .1 .1 .0) said stepped typed) len₅ len₆))))))))))))))))))))))))))))))
 
 module _ {M : Type 1} (𝓤 : URA M) (H : Heap 𝓤) (A : Atoms 𝓤) (W : Given 𝓤 H A) (mem : Memory → SProp 𝓤) (run : Routine → Fun 𝓤) where
-  walks : (C : Calls 𝓤 H) (Λ : Loops 𝓤 H) → FmC 𝓤 H (W .laws) C → Triple 𝓤 (C #gather) (Gather 𝓤 H A mem run) → Triple 𝓤 (C #plan) (Core 𝓤 H A mem run) → Walks 𝓤 H A f.ended stayed (WpFn 𝓤 H C Λ code.function) (f.clauses 𝓤 H A mem run)
+  walks : (C : Calls 𝓤 H) (Λ : Loops 𝓤 H) → FmC 𝓤 H (W .laws) C → Triple 𝓤 (C #gather) (Gather 𝓤 H A mem run) → Triple 𝓤 (C #plan-among) (Core 𝓤 H A mem run) → Walks 𝓤 H A f.ended stayed (WpFn 𝓤 H C Λ code.function) (f.clauses 𝓤 H A mem run)
   walks C Λ fm known-gather known-core = walked 𝓤 H A f.ended stayed (f.clauses 𝓤 H A mem run) (WpFn 𝓤 H C Λ code.function)
       (λ κs. (slice-vals, (slice-vals, (slice-vals, (uint-vals w8, (uint-vals w64, (slice-vals, (slice-vals, (slice-vals, (slice-vals, tt))))))))))
       (λ κs. (shr-slice-tells (named 0) (κs .0) u64, (shr-slice-tells (named 1) (κs .1 .0) u64, (shr-slice-tells (named 0) (κs .0) u64, (uint-tells w8, (uint-tells w64, (shr-slice-tells (named 2) (κs .1 .1 .0) R.the-row, (shr-slice-tells (named 0) (κs .0) u64, (mut-slice-tells (named 3) (κs .1 .1 .1 .0) u64, (mut-slice-tells (named 4) (κs .1 .1 .1 .1 .0) u64, tt))))))))))
@@ -391,7 +391,7 @@ module _ {M : Type 1} (𝓤 : URA M) (H : Heap 𝓤) (A : Atoms 𝓤) (W : Given
   all-go : AllGo 𝓤 H A W 5 (f.signature .params) (f.ended .kept) stayed
   all-go = (goes-none-slice 𝓤 H A W 5 (0 ∷ []) tt (plain (λ _. u64)) yes, (goes-none-slice 𝓤 H A W 5 (1 ∷ []) tt (plain (λ _. u64)) yes, (goes-none-slice 𝓤 H A W 5 (0 ∷ []) tt (plain (λ _. u64)) yes, (goes-none 𝓤 H A W 5 (λ _. u8) yes (λ κs x f. refl), (goes-none 𝓤 H A W 5 (λ _. u64) yes (λ κs x f. refl), (goes-none-slice 𝓤 H A W 5 (2 ∷ []) tt (plain (λ _. R.the-row)) yes, (goes-none-slice 𝓤 H A W 5 (0 ∷ []) tt (plain (λ _. u64)) yes, (goes-gave-slice 𝓤 H A W 5 3 tt (plain (λ _. u64)), (goes-gave-slice 𝓤 H A W 5 4 tt (plain (λ _. u64)), tt)))))))))
 
-meets : {M : Type 1} (𝓤 : URA M) (H : Heap 𝓤) (A : Atoms 𝓤) → Given 𝓤 H A → (mem : Memory → SProp 𝓤) (run : Routine → Fun 𝓤) (𝓣 : Tables 𝓤 H) → Triple 𝓤 (𝓣 .C #gather) (Gather 𝓤 H A mem run) → Triple 𝓤 (𝓣 .C #plan) (Core 𝓤 H A mem run)
+meets : {M : Type 1} (𝓤 : URA M) (H : Heap 𝓤) (A : Atoms 𝓤) → Given 𝓤 H A → (mem : Memory → SProp 𝓤) (run : Routine → Fun 𝓤) (𝓣 : Tables 𝓤 H) → Triple 𝓤 (𝓣 .C #gather) (Gather 𝓤 H A mem run) → Triple 𝓤 (𝓣 .C #plan-among) (Core 𝓤 H A mem run)
     → Meets 𝓤 H A f.signature (WpFn 𝓤 H (𝓣 .C) (𝓣 .Λ) code.function) (f.spec 𝓤 H A mem run)
 meets 𝓤 H A W mem run 𝓣 known-gather known-core = walk-meets 𝓤 H A f.ended stayed W (all-go 𝓤 H A W mem run) (f.clauses 𝓤 H A mem run)
     (WpFn 𝓤 H (𝓣 .C) (𝓣 .Λ) code.function) (WpFn-mono 𝓤 H (W .laws) 𝓣 code.function) (walks 𝓤 H A W mem run (𝓣 .C) (𝓣 .Λ) (fmOf 𝓤 H (W .laws) 𝓣) known-gather known-core)
@@ -403,4 +403,4 @@ autoderef-spec 𝓤 H 𝓜 𝓖 𝓡 =
     (tables 𝓤 H 𝓜 𝓡 code.env .C) (tables 𝓤 H 𝓜 𝓡 code.env .Λ) #autoderef code.function (code.unfolded 𝓤 H 𝓜 𝓡)
     (meets 𝓤 H (𝓖 .A) (givenOf 𝓤 H 𝓜 𝓖) (𝓜 .mem) (𝓡 .run) (tablesOf 𝓤 H 𝓜 (tables 𝓤 H 𝓜 𝓡 code.env))
     (cited 𝓤 H (Gather 𝓤 H (𝓖 .A) (𝓜 .mem) (𝓡 .run)) 𝓜 𝓡 code.env #gather gather-def.routine code.calls-tables·gather (gather-thm.met 𝓤 H 𝓜 𝓖 𝓡))
-    (cited 𝓤 H (Core 𝓤 H (𝓖 .A) (𝓜 .mem) (𝓡 .run)) 𝓜 𝓡 code.env #plan core-def.routine code.calls-planner·plan·plan (core-thm.met 𝓤 H 𝓜 𝓖 𝓡)))
+    (cited 𝓤 H (Core 𝓤 H (𝓖 .A) (𝓜 .mem) (𝓡 .run)) 𝓜 𝓡 code.env #plan-among core-def.routine code.calls-planner·plan·plan-among (core-thm.met 𝓤 H 𝓜 𝓖 𝓡)))

@@ -1,12 +1,12 @@
 use borrow.Author.Needs.{needs}
-use Rattle.planner.proofs.plan.plan.Statement.{statement}
-use Rattle.planner.proofs.plan.plan.Tie as tie
+use Rattle.planner.proofs.plan.plan_among.Statement.{statement}
+use Rattle.planner.proofs.plan.plan_among.Tie as tie
 use denote.Ref.{now}
 use Rattle.tables.specs.Rows.{readFrom}
 use Rattle.planner.proofs.Asking.{known-whole, target-whole, few-rounds, question-refused, question-passed}
 
-pub plan-spec : {M : Type 1} → statement M
-plan-spec =
+pub plan-among-spec : {M : Type 1} → statement M
+plan-among-spec =
     tie.close
     (tie.spec
     (λ c κs. search needs)

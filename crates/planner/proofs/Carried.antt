@@ -1,0 +1,169 @@
+-- The third demand, of what `autoderef` returns and writes: the plan that stands in its report and in its outputs meets it.
+-- Assumes nothing.
+use mathlib.Core.Path.{_≡_, refl, sym, ap, subst, _∙_}
+use mathlib.Core.Bool.{Bool, true, false, cond, _||_, true≢false, false≢true}
+use mathlib.Core.List.{List, [], _∷_, _++_}
+use Prim.Native.Nat.{ℕ, _*_, _/_, _≤_, _<_}
+use lib.Dec.{leb, ltb}
+use lib.ListN.{length, take, drop, getD, List·getD-eq-default}
+use lib.Seq.{take-at}
+use borrow.Author.Tests.{ltb-true, ltb-false}
+use Rattle.layers.specs.Layers.{Layer, layers, spelled}
+use Rattle.layers.specs.Answer.{Answer, given, nothing, refused, next}
+use Rattle.layers.specs.Check.{checkOf}
+use Rattle.layers.proofs.Given.{not-given, nothing-given, given-is}
+use Rattle.layers.proofs.Accepted.{goodLayers, accepted-good}
+use Rattle.layers.proofs.Spelling.{spelled-length, layers-spelled}
+use Rattle.buffers.specs.Written.{written}
+use Rattle.buffers.proofs.Writing.{fits}
+use Rattle.tables.specs.declared.symbol.Symbol.{Symbol}
+use Rattle.tables.specs.Rows.{vacant}
+use Rattle.tables.specs.Order as order
+use Rattle.tables.specs.Order.{isGood, passes, slotFor, inOrder}
+use Rattle.tables.proofs.Ordered.{ordered}
+use Rattle.tables.proofs.Setting.{pass-at}
+use Rattle.steps.specs.Steps.{steps, stepWords}
+use Rattle.steps.proofs.Words.{words-length, words-back}
+use Rattle.walker.specs.Walker.{Stored, typed, absent}
+use Rattle.walker.specs.Members.{ofLayers, members, memberWords}
+use Rattle.planner.specs.declared.report.Report.{Report}
+use Rattle.planner.specs.Plan.{Plan, planOf}
+use Rattle.planner.specs.Report.{delivered, told, stepsOver, typeOver, planRead}
+use Rattle.planner.specs.Answers.{limits, question, planned, planAnswer}
+use Rattle.planner.specs.Demand.{Demand}
+use Rattle.planner.proofs.Delivering.{second-fits}
+use Rattle.planner.proofs.Asking.{passed}
+use Rattle.planner.proofs.Arrives.{demand}
+use Rattle.planner.proofs.Answered.{not-refused}
+
+-- the layers of every member of a table in order are good
+good-words : (ws : List ℕ) (x : Answer ℕ) → checkOf ws ≡ x → isGood x ≡ true → goodLayers (layers ws) ≡ true
+good-words ws (given n) e g = accepted-good ws n e
+good-words ws nothing e g = absurd (false≢true g)
+good-words ws (refused n p) e g = absurd (false≢true g)
+
+module _ (table : List Symbol) (store : List ℕ) (id : ℕ) (ok : inOrder table store ≡ true) where
+  abbrev k : ℕ
+  k = slotFor id table
+
+  abbrev s : Symbol
+  s = getD table k vacant
+
+  abbrev ws : List ℕ
+  ws = take (s .layers * 3) (drop (k * 48) store)
+
+  by-state : (f g : Bool) → cond f (cond g (isGood (checkOf ws)) false) true ≡ true → goodLayers (layers (cond f ws [])) ≡ true
+  unfolding goodLayers layers
+  by-state true true e = good-words ws (checkOf ws) refl e
+  by-state true false e = absurd (false≢true e)
+  by-state false g e = refl
+
+  record-passes : (f : Bool) → ltb k (length table) ≡ f → passes (s .state) (s .layers) (drop (k * 48) store) ≡ true
+  unfolding passes
+  record-passes true e = pass-at table store k (ordered table store ok .pass) (ltb-true k (length table) e)
+  record-passes false e = rw (List·getD-eq-default table vacant (ltb-false k (length table) e)) refl
+
+  member-good : goodLayers (layers (memberWords table store id)) ≡ true
+  unfolding memberWords passes
+  member-good = by-state (order.typed s) (leb (s .layers) 16) (record-passes (ltb k (length table)) refl)
+
+  abbrev typeIn : Stored → List Layer
+  typeIn (typed t) = t
+  typeIn absent = []
+
+  type-is : (l : List Layer) → l ≡ typeIn (ofLayers l)
+  type-is [] = refl
+  type-is (x ∷ l) = refl
+
+  members-good : (t : List Layer) → members table store id ≡ typed t → goodLayers t ≡ true
+  unfolding members
+  members-good t e = subst (λ (l : List Layer). goodLayers l ≡ true) (type-is (layers (memberWords table store id)) ∙ ap typeIn e) member-good
+
+-- what was written is read again
+front : (ws b : List ℕ) (n : ℕ) → length ws ≡ n → length ws ≤ length b → take n (written ws b) ≡ ws
+front ws b n e h = ap (take n) (fits ws b h) ∙ take-at ws (drop (length ws) b) n e
+
+read-back : (p : Plan) (b c : List ℕ) → length (stepWords (p .steps)) ≤ length b → length (spelled (p .type)) ≤ length c →
+    planRead (told (given p)) (stepsOver (given p) b) (typeOver (given p) c) ≡ p
+unfolding told stepsOver typeOver
+read-back p b c h i =
+    let es = ap steps (front (stepWords (p .steps)) b (4 * length (p .steps)) (words-length (p .steps)) h) ∙ words-back (p .steps) in
+    let et = ap layers (front (spelled (p .type)) c (3 * length (p .type)) (spelled-length (p .type)) i) ∙ layers-spelled (p .type) in
+    λ j. record { steps = es j; taken = p .taken; type = et j; address = p .address; coerced = p .coerced }
+
+-- what is behind a plan that is given
+first-fits : (a b c d : ℕ) → (ltb a b || ltb c d) ≡ false → b ≤ a
+first-fits a b c d e = by-first (ltb a b) refl e
+  where
+    by-first : (f : Bool) → ltb a b ≡ f → (f || ltb c d) ≡ false → b ≤ a
+    by-first true q e = absurd (true≢false e)
+    by-first false q e = ltb-false a b q
+
+after : {A B : Type 0} (c : Answer A) (d : Answer B) (p : B) → next c d ≡ given p → d ≡ given p
+after (given x) d p e = e
+after nothing d p e = e
+after (refused n q) d p e = absurd (not-given n q p e)
+
+in-turn : {A B C : Type 0} (a : Answer A) (b : Answer B) (c : Answer C) → next (next a b) c ≡ next a (next b c)
+in-turn (given x) b c = refl
+in-turn nothing b c = refl
+in-turn (refused n q) b c = refl
+
+abbrev Delivered : ℕ → ℕ → Answer Plan → Plan → Type 0
+Delivered room wide a p = (a ≡ given p) × (length (stepWords (p .steps)) ≤ room) × (length (spelled (p .type)) ≤ wide)
+
+by-room : (room wide : ℕ) (a : Answer Plan) (p : Plan) → delivered room wide a ≡ given p → Delivered room wide a p
+unfolding delivered
+by-room room wide nothing p e = absurd (nothing-given p e)
+by-room room wide (refused n q) p e = absurd (not-given n q p e)
+by-room room wide (given x) p e = by-test (ltb room (length (stepWords (x .steps))) || ltb wide (length (spelled (x .type)))) refl e
+  where
+    by-test : (f : Bool) → (ltb room (length (stepWords (x .steps))) || ltb wide (length (spelled (x .type)))) ≡ f →
+        cond f (refused 14 0) (given x) ≡ given p → Delivered room wide (given x) p
+    by-test true q e = absurd (not-given 14 0 p e)
+    by-test false q e =
+        subst (Delivered room wide (given x)) (given-is x p e)
+        (refl, first-fits room (length (stepWords (x .steps))) wide (length (spelled (x .type))) q, second-fits room (length (stepWords (x .steps))) wide (length (spelled (x .type))) q)
+
+module _ (table : List Symbol) (store known asked target : List ℕ) (depth limit : ℕ) where
+  abbrev Demanded : Plan → Type 0
+  Demanded p = Demand (members table store) (layers known) (steps asked) (layers target) depth limit p
+
+  abbrev planned-by : Answer Plan
+  planned-by = planOf (members table store) (layers known) (steps asked) (layers target) depth limit
+
+  by-order : (room wide : ℕ) (p : Plan) (f : Bool) → inOrder table store ≡ f → cond f (delivered room wide planned-by) (refused 12 0) ≡ given p →
+      (inOrder table store ≡ true) × (delivered room wide planned-by ≡ given p)
+  by-order room wide p true q e = (q, e)
+  by-order room wide p false q e = absurd (not-given 12 0 p e)
+
+  -- a plan that is given meets the demand, and there is room for it
+  by-answer : (room wide : ℕ) (p : Plan) → planAnswer table store known asked target depth limit room wide ≡ given p →
+      Demanded p × (length (stepWords (p .steps)) ≤ room) × (length (spelled (p .type)) ≤ wide)
+  unfolding planAnswer planned
+  by-answer room wide p e =
+      let first = passed known (next (next (checkOf target) (limits asked limit)) (planned table store known asked target depth limit room wide)) p
+      (sym (in-turn (checkOf known) (next (checkOf target) (limits asked limit)) (planned table store known asked target depth limit room wide)) ∙ e) in
+      let rest = after (next (checkOf target) (limits asked limit)) (planned table store known asked target depth limit room wide) p (first .1) in
+      let order = by-order room wide p (inOrder table store) refl rest in
+      let there = by-room room wide planned-by p (order .1) in (
+        demand (members table store) (λ id. members-good table store id (order .0)) (layers known) (accepted-good known (length known / 3) (first .0)) (steps asked) (layers target) depth limit p (there .0),
+        there .1,
+        there .2,
+      )
+
+  -- THE THEOREM: where the report has no refusal, the plan that stands in it and in the outputs meets the third demand.
+  pub demand-carried : (r : Report) (b b′ c c′ : List ℕ) →
+      (r ≡ told (planAnswer table store known asked target depth limit (length b) (length c)))
+      × (b′ ≡ stepsOver (planAnswer table store known asked target depth limit (length b) (length c)) b)
+      × (c′ ≡ typeOver (planAnswer table store known asked target depth limit (length b) (length c)) c) →
+      r .refusal ≡ 0 → Demanded (planRead r b′ c′)
+  demand-carried r b b′ c c′ h z =
+      let given-so = not-refused table store known asked target depth limit (length b) (length c) (ap (λ (x : Report). x .refusal) (sym (h .0)) ∙ z) in
+      let p = given-so .0 in
+      let met = by-answer (length b) (length c) p (given-so .1) in
+      let er : r ≡ told (given p) = h .0 ∙ ap told (given-so .1) in
+      let eb : b′ ≡ stepsOver (given p) b = h .1 ∙ ap (λ (a : Answer Plan). stepsOver a b) (given-so .1) in
+      let ec : c′ ≡ typeOver (given p) c = h .2 ∙ ap (λ (a : Answer Plan). typeOver a c) (given-so .1) in
+      let is : planRead r b′ c′ ≡ p = (λ j. planRead (er j) (eb j) (ec j)) ∙ read-back p b c (met .1) (met .2) in
+      subst Demanded (sym is) (met .0)

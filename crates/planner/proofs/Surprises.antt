@@ -1,0 +1,39 @@
+-- What the rules say, and a reader may not expect; each line is computed.
+-- Assumes nothing.
+use mathlib.Core.Path.{_≡_, refl}
+use mathlib.Core.Bool.{true, false}
+use mathlib.Core.List.{[]}
+use Rattle.kinds.specs.Kind as kind
+use Rattle.layers.specs.Layers.{outer, inside}
+use Rattle.layers.specs.Answer.{refused}
+use Rattle.parts.specs.Parts.{references}
+use Rattle.sizes.specs.Depth.{pointerDepth}
+use Rattle.forms.specs.Formed.{inner, element, wellFormed}
+use Rattle.relations.specs.Relations.{identical, plain, equals}
+use Rattle.coercions.specs.Coercions.{coerces, addressCoerces, viewAutoderefs, autoderefs}
+use Rattle.turns.specs.Turns.{turn}
+use Rattle.turns.specs.Settling.{settleOtherwise, settle}
+use Rattle.planner.specs.Walk.{walk}
+use Rattle.planner.specs.Plan.{planOf}
+use Rattle.planner.proofs.Table.{leaf, of, int32, plan, planned}
+
+pub record Surprises : Type 0 where
+  -- the address of (vii) can make an ill-formed type
+  pub void-at-depth-1 : planned (leaf kind.void) [] int32 1 64 ≡ plan [] 0 (of kind.pointer (leaf kind.void)) true false
+  pub pointer-to-void : wellFormed (of kind.pointer (leaf kind.void)) ≡ false
+  -- the third demand's exception can hide more than one step: no step is planned, and a View and a Pointer are gone
+  pub two-hidden : planned (of kind.view (of kind.pointer int32)) [] (of kind.pointer int32) 0 64 ≡ plan [] 0 int32 false false
+  -- so a type that autoderefs into the target need not be planned to arrive there
+  pub autoderefs-there : autoderefs (of kind.view (of kind.pointer int32)) (of kind.pointer int32) ≡ true
+  -- a SlicePointer at depth 0 has no settling, not even for itself
+  pub slice-pointer-for-itself : planned (of kind.slicePointer int32) [] (of kind.slicePointer int32) 0 64 ≡ refused 10 0
+
+pub surprises : Surprises
+unfolding outer inside references pointerDepth inner element wellFormed identical plain equals coerces addressCoerces viewAutoderefs autoderefs turn settleOtherwise settle walk planOf
+surprises = record {
+  void-at-depth-1 = refl;
+  pointer-to-void = refl;
+  two-hidden = refl;
+  autoderefs-there = refl;
+  slice-pointer-for-itself = refl;
+}

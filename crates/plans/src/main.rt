@@ -1,0 +1,18 @@
+// Plans about a small table, some of whose members lead back to pointers. What it writes is held to the stored lines.
+mod asking;
+mod members;
+mod questions;
+mod report;
+mod sweeps;
+mod words;
+
+fn main() {
+    report::heading();
+    asking::along();
+    asking::settled();
+    sweeps::rounds();
+    sweeps::counts();
+    sweeps::rooms();
+    sweeps::deep();
+    sweeps::disorder();
+}
