@@ -8,6 +8,7 @@ pub mod Going
 pub mod Reading
 pub mod Pushing
 pub mod Delivering
+pub mod Endings
 pub mod Finishing
 pub mod Turning
 pub mod Outcomes

@@ -23,35 +23,51 @@ pub(crate) fn rounds() {
     }
 }
 
-// The member that is the Struct itself, 34 times.
-fn members() -> [u64; 136]
+// A member, 34 times.
+fn members(id: u64) -> [u64; 136]
     ensures { λ r. ⌜ 136 ≡ length r ⌝ }
 {
     let mut ws = [0u64; 136];
     let mut i = 0;
     while i < 34 {
         ws[4 * i] = StepKind::MEMBER;
-        ws[4 * i + 1] = 7;
+        ws[4 * i + 1] = id;
         i += 1;
     }
     ws
 }
 
-fn asked(n: usize) {
-    let t = type_at(2);
+// So many words of it, from a type and back to it.
+fn asked(i: usize, id: u64, words: usize, rounds: u64) {
+    let t = type_at(i);
     let ws = t.words;
-    let q = members();
-    given(n as u64);
-    text(b" members:");
-    ask(ordinary(0, 64), &ws, first(&q, n), &ws);
+    let q = members(id);
+    given(words as u64);
+    text(b" words of members,");
+    given(rounds);
+    text(b" rounds:");
+    let n = Numbers {
+        records: MEMBERS,
+        known: t.count,
+        target: t.count,
+        level: 0,
+        rounds,
+        room: 576,
+        wide: 48,
+    };
+    ask(n, &ws, first(&q, words), &ws);
 }
 
-// The most asked steps, one less and one more.
+// The most asked steps, one less and one more; and a walk that the most rounds cut off.
 pub(crate) fn counts() {
     text(b"asked\n");
-    asked(124);
-    asked(128);
-    asked(132);
+    asked(2, 7, 124, 64);
+    asked(2, 7, 128, 64);
+    asked(2, 7, 132, 64);
+    asked(18, 2, 128, 62);
+    asked(18, 2, 128, 63);
+    asked(18, 2, 128, 64);
+    asked(18, 2, 128, 65);
 }
 
 fn wide_each(room: usize) {

@@ -1,6 +1,7 @@
 use borrow.Author.Needs.{needs}
 use Rattle.planner.proofs.ending.ending_of.Statement.{statement}
 use Rattle.planner.proofs.ending.ending_of.Tie as tie
+use Rattle.planner.proofs.Endings.{kept, viewed, addressed, dereferenced, not-settled}
 
 pub ending-of-spec : {M : Type 1} → statement M
 ending-of-spec =
@@ -17,8 +18,8 @@ ending-of-spec =
     (λ c κs. search needs)
     (λ c. search needs)
     (λ c κs. search needs)
-    (λ c. cc)
-    (λ c. cc)
-    (λ c. cc)
-    (λ c. cc)
-    (λ c. cc))
+    (λ c. search kept)
+    (λ c. search viewed)
+    (λ c. search addressed)
+    (λ c. search dereferenced)
+    (λ c. search not-settled))

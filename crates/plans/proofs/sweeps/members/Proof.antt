@@ -6,10 +6,10 @@ use Rattle.plans.proofs.sweeps.members.Statement.{statement}
 use Rattle.plans.proofs.sweeps.members.Tie as tie
 
 abbrev Inv-loop : tie.InvT-loop
-Inv-loop ws₀ i₀ ws i = 136 ≡ length ws
+Inv-loop id ws₀ i₀ ws i = 136 ≡ length ws
 
 abbrev μ-loop : tie.MeasureT-loop
-μ-loop ws₀ i₀ ws i = 34 - i
+μ-loop id ws₀ i₀ ws i = 34 - i
 
 pub members-spec : {M : Type 1} → statement M
 members-spec =
