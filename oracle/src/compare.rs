@@ -2,6 +2,7 @@
 
 use crate::ask::{answer, Answer, FIXING, QUESTIONS, RELATIONS};
 use crate::face;
+use crate::plans;
 use crate::random::Random;
 use crate::records;
 use crate::small::*;
@@ -88,7 +89,8 @@ pub fn compare(scale: u64, seed: u64) -> (u64, u64) {
     random(&mut tallies, scale, &mut Random::new(seed));
     fixing(&mut tallies);
     random_fixing(&mut tallies, scale, &mut Random::new(seed));
-    let symbols = records::compare(scale, &mut Random::new(seed));
+    let mut symbols = records::compare(scale, &mut Random::new(seed));
+    symbols.extend(plans::compare(scale, &mut Random::new(seed)));
     report(&tallies.0, &symbols)
 }
 

@@ -9,16 +9,30 @@ mod caught;
 #[cfg(face)]
 mod compare;
 #[cfg(face)]
+mod disorder;
+#[cfg(face)]
 mod face;
+#[cfg(face)]
+mod journeys;
+#[cfg(face)]
+mod lent;
+#[cfg(face)]
+mod plan_face;
+#[cfg(face)]
+mod planning;
+#[cfg(face)]
+mod plans;
 // Its fields are there for the original's text to fill in.
 #[allow(dead_code)]
 mod prelude;
 mod random;
 #[cfg(face)]
 mod records;
+mod script;
 #[cfg(face)]
 mod small;
 mod smoke;
+mod symbols;
 mod types;
 mod words;
 
@@ -27,7 +41,7 @@ use std::io::Write;
 use std::process::exit;
 
 const USAGE: &str =
-    "oracle smoke | oracle cases | oracle answers COUNT SEED | oracle compare SCALE SEED";
+    "oracle smoke | oracle cases | oracle script FILE | oracle answers COUNT SEED | oracle compare SCALE SEED";
 
 fn main() {
     let words: Vec<String> = env::args().skip(1).collect();
@@ -35,6 +49,10 @@ fn main() {
     match words[..] {
         ["smoke"] => verdict(smoke::smoke()),
         ["cases"] => write(&cases::cases()),
+        ["script", file] => match std::fs::read_to_string(file) {
+            Ok(text) => write(&script::script(&text)),
+            Err(error) => fail(&format!("{file}: {error}")),
+        },
         ["answers", count, seed] => {
             write(&answers::answers(number(count) as usize, number(seed)));
         }

@@ -1,112 +1,19 @@
 //! The symbol update and the symbol table: the proved library against the original, on the same
-//! records and words. The original has no slots: a record's slot is where it was inserted.
+//! records and words.
 
-use crate::face::Raw;
-use crate::prelude::{Identifier, ValueType};
+use crate::disorder;
+use crate::face::KEPT;
+use crate::lent::Lent;
 use crate::random::Random;
 use crate::small::{small_types, types_of_three};
-use crate::typer::ask::{update, Record, Table};
-use crate::types::{damaged, good_type, relative, words};
-use crate::words::{check, decode, encode, Layer};
-
-/// include/trestlejay.h, tj_symbol.
-#[repr(C)]
-#[derive(Debug, Clone, Copy, PartialEq)]
-struct Symbol {
-    id: u32,
-    authority: bool,
-    place: u64,
-    state: u64,
-    layers: u64,
-    mark: u64,
-}
-
-const FREE: Symbol = Symbol {
-    id: 0,
-    authority: false,
-    place: 0,
-    state: 0,
-    layers: 0,
-    mark: 0,
-};
-
-extern "C" {
-    fn tj_update_symbol(
-        symbol: *mut Symbol,
-        words: *mut u64,
-        nwords: usize,
-        id: u32,
-        authority: bool,
-        place: u64,
-        offered: *const u64,
-        n: usize,
-    ) -> Raw;
-    fn tj_put_nothing(
-        table: *const Symbol,
-        nt: usize,
-        store: *const u64,
-        ns: usize,
-        id: u32,
-        authority: bool,
-        place: u64,
-    ) -> Raw;
-    fn tj_put_type(
-        table: *mut Symbol,
-        nt: usize,
-        store: *mut u64,
-        ns: usize,
-        id: u32,
-        authority: bool,
-        place: u64,
-        offered: *const u64,
-        n: usize,
-    ) -> Raw;
-    fn tj_put_poison(
-        table: *mut Symbol,
-        nt: usize,
-        store: *mut u64,
-        ns: usize,
-        id: u32,
-        authority: bool,
-        place: u64,
-        mark: u64,
-    ) -> Raw;
-    fn tj_forward_declare_type(
-        table: *mut Symbol,
-        nt: usize,
-        store: *mut u64,
-        ns: usize,
-        id: u32,
-        authority: bool,
-        place: u64,
-        offered: *const u64,
-        n: usize,
-    ) -> Raw;
-    fn tj_forward_declare_poison(
-        table: *mut Symbol,
-        nt: usize,
-        store: *mut u64,
-        ns: usize,
-        id: u32,
-        authority: bool,
-        place: u64,
-        mark: u64,
-    ) -> Raw;
-    fn tj_get_symbol(
-        table: *const Symbol,
-        nt: usize,
-        store: *const u64,
-        ns: usize,
-        id: u32,
-        authority: bool,
-        found: *mut u64,
-    ) -> Raw;
-}
+use crate::symbols::{update_alone, Asked, Judge, Operation, Symbol, Told, FREE, PART};
+use crate::types::{coerced, damaged, good_type, likened, pair, relative, words};
+use crate::words::{decode, Layer, ARRAY, ARRAYLIKE, NAMED, SLICE};
 
 /// The cases of one function.
 #[derive(Default)]
 pub struct Row {
-    pub name: &'static str,
+    pub name: String,
     pub cases: u64,
     pub changes: u64,
     pub refusals: u64,
@@ -114,399 +21,350 @@ pub struct Row {
     pub first: Option<String>,
 }
 
-/// Refusal and value; the records; their words.
-type Outcome = ((u64, u64), Vec<Symbol>, Vec<u64>);
-
 impl Row {
-    fn new(name: &'static str) -> Self {
+    fn new(name: String) -> Self {
         Row {
             name,
             ..Row::default()
         }
     }
 
-    fn tell<T: PartialEq + std::fmt::Debug>(
-        &mut self,
-        answer: (u64, u64),
-        expected: T,
-        found: T,
-        asked: impl Fn() -> String,
-    ) {
+    /// Counts a case; what differs is told by `differs`.
+    fn count(&mut self, told: &Told, differs: Option<String>) {
         self.cases += 1;
-        match answer {
+        match (told.refusal, told.value) {
             (0, 0) => {}
             (0, _) => self.changes += 1,
             _ => self.refusals += 1,
         }
-        if expected != found {
+        if let Some(first) = differs {
             self.differences += 1;
-            self.first.get_or_insert_with(|| {
-                format!(
-                    "  asked     {}\n  the Rust  {expected:?}\n  ours      {found:?}",
-                    asked()
-                )
-            });
+            self.first.get_or_insert(first);
         }
     }
 }
 
-/// Stands in the words that no type was written to.
-const KEPT: u64 = 0x6b65_7074_2121_5a5a;
-/// A mark that a typed record has from before.
-const STALE: u64 = 77;
+const NAMES: [&str; 7] = [
+    "update_symbol",
+    "put_nothing",
+    "put_type",
+    "put_poison",
+    "forward_declare_type",
+    "forward_declare_poison",
+    "get_symbol",
+];
+
+/// A row for each function, of tables in order or of spoiled ones.
+pub struct Rows(Vec<Row>);
+
+impl Rows {
+    fn new(title: &str) -> Self {
+        let name = |name: &&str| format!("{name}{title}");
+        Rows(NAMES.iter().map(name).map(Row::new).collect())
+    }
+
+    /// Asks both about a table. Whether they agree in the answer, every record, every word of the
+    /// store and everything around.
+    pub fn ask(&mut self, judge: &mut Judge, lent: &mut Lent, asked: &Asked) -> bool {
+        use Operation::*;
+        let row = match asked.operation {
+            PutNothing => 1,
+            PutType(_) => 2,
+            PutPoison(_) => 3,
+            DeclareType(_) => 4,
+            DeclarePoison(_) => 5,
+            Get => 6,
+        };
+        let expected = judge.tell(asked);
+        let found = lent.ask(asked);
+        let differs = differs(&expected, &found, &judge.table, &judge.store, lent);
+        let same = differs.is_none();
+        let tell = |rest| format!("  asked     {asked:?}\n{rest}");
+        self.0[row].count(&expected, differs.map(tell));
+        same
+    }
+
+    /// Asks both about a lone symbol.
+    pub fn update(
+        &mut self,
+        symbol: &Symbol,
+        room: &[u64],
+        name: (u32, bool, u64),
+        offered: &[u64],
+    ) {
+        let mut lent = Lent::new(&[*symbol], room);
+        let (mut after, mut words) = (*symbol, room.to_vec());
+        let expected = update_alone(&mut after, &mut words, name, offered);
+        let found = lent.update(name, offered);
+        let tell = |rest| {
+            format!("  asked     {symbol:?} {room:?}\n  by        {name:?} {offered:?}\n{rest}")
+        };
+        let differs = differs(&expected, &found, &[after], &words, &lent).map(tell);
+        self.0[0].count(&expected, differs);
+    }
+}
+
+fn differs(
+    expected: &Told,
+    found: &Result<Told, String>,
+    table: &[Symbol],
+    store: &[u64],
+    lent: &Lent,
+) -> Option<String> {
+    if found.as_ref() == Ok(expected)
+        && lent.table() == table
+        && lent.store() == store
+        && lent.guards_are_kept()
+    {
+        return None;
+    }
+    let mut text = format!("  the Rust  {expected:?}\n  ours      {found:?}");
+    if let Some(slot) = (0..table.len()).find(|slot| table[*slot] != lent.table()[*slot]) {
+        let (right, ours) = (table[slot], lent.table()[slot]);
+        text += &format!("\n  slot {slot}    {right:?}\n  ours      {ours:?}");
+    }
+    if let Some(word) = (0..store.len()).find(|word| store[*word] != lent.store()[*word]) {
+        let (right, ours) = (store[word], lent.store()[word]);
+        text += &format!("\n  word {word}   {right}\n  ours      {ours}");
+    }
+    if !lent.guards_are_kept() {
+        text += "\n  a guard is changed";
+    }
+    Some(text)
+}
 
 pub fn compare(scale: u64, random: &mut Random) -> Vec<Row> {
-    let mut lone = Row::new("do_update_symbol");
+    let mut rows = Rows::new("");
+    alone(&mut rows, scale, random);
+    // Every count of records, and the small ones often.
+    for _ in 0..3 * scale {
+        for records in 0..=130 {
+            play(&mut rows, records, random);
+        }
+    }
+    for _ in 0..1_000 * scale {
+        let records = random.below(6);
+        play(&mut rows, records, random);
+    }
+    let mut spoiled = Rows::new(", spoiled");
+    disorder::compare(&mut spoiled, scale, random);
+    rows.0.extend(spoiled.0);
+    rows.0
+}
+
+/// Words that no type was written to, each of them another.
+pub fn room(count: usize) -> Vec<u64> {
+    (0..count as u64).map(|word| KEPT + word).collect()
+}
+
+/// A symbol with the id 1, typed or poisoned, with its 48 words.
+fn symbol(stored: Result<&[u64], u64>, authority: bool) -> (Symbol, Vec<u64>) {
+    let mut room = room(PART);
+    let (state, layers, mark) = match stored {
+        Ok(stored) => {
+            room[..stored.len()].copy_from_slice(stored);
+            // A mark from before.
+            (1, stored.len() as u64 / 3, 77)
+        }
+        // A count from before.
+        Err(mark) => (2, 99, mark),
+    };
+    let symbol = Symbol {
+        id: 1,
+        authority,
+        place: 10,
+        state,
+        layers,
+        mark,
+    };
+    (symbol, room)
+}
+
+/// Lone symbols: every pair of small types, each with the four authorities and with another name and
+/// the symbol's own; then random ones.
+fn alone(rows: &mut Rows, scale: u64, random: &mut Random) {
+    let names = |authority| [(2, authority, 20), (1, authority, 10)];
     for types in [small_types(&[0, 1], &[0, 3]), types_of_three()] {
         for stored in &types {
-            for offered in &types {
-                for authorities in 0..4 {
-                    update_lone(&mut lone, stored, offered, authorities);
+            for own in [false, true] {
+                let (typed, room) = symbol(Ok(stored), own);
+                for offered in &types {
+                    for name in [false, true].map(names).concat() {
+                        rows.update(&typed, &room, name, offered);
+                    }
+                }
+                let (poisoned, room) = symbol(Err(5), own);
+                for name in [false, true].map(names).concat() {
+                    rows.update(&poisoned, &room, name, stored);
                 }
             }
         }
     }
-    let mut tables = [
-        "put_symbol",
-        "poison_symbol",
-        "forward_declare_symbol",
-        "get_symbol",
-    ]
-    .map(Row::new);
     for _ in 0..scale * 5_000 {
-        let layers = good_type(random, 16);
-        let near = relative(random, &layers);
-        update_lone(
-            &mut lone,
-            &words(&layers),
-            &words(&near),
-            random.below(4) as u64,
-        );
-        update_lone(&mut lone, &words(&near), &damaged(random, &layers), 3);
-        play(&mut tables, random);
-    }
-    let mut rows = vec![lone];
-    rows.extend(tables);
-    rows
-}
-
-fn typed(words: &[u64]) -> ValueType {
-    decode(&check(words).expect("a type"))
-}
-
-/// The record's fields; a typed record that nothing was written to keeps its mark.
-fn symbol(record: &Record, mark: u64) -> Symbol {
-    let (state, layers, mark) = match &record.stored {
-        Ok(stored) => (1, encode(stored).len() as u64 / 3, mark),
-        Err(mark) => (2, 0, *mark),
-    };
-    Symbol {
-        id: record.id,
-        authority: record.authority,
-        place: record.place,
-        state,
-        layers,
-        mark,
+        let (a, b) = pair(random, 16);
+        let authorities = random.below(4);
+        let (typed, room) = symbol(Ok(&words(&a)), authorities & 1 == 1);
+        let name = random.pick(&names(authorities & 2 == 2));
+        rows.update(&typed, &room, name, &words(&b));
+        rows.update(&typed, &room, name, &damaged(random, &b));
+        let (poisoned, room) = symbol(Err(random.below(2) as u64), true);
+        rows.update(&poisoned, &room, name, &damaged(random, &b));
     }
 }
 
-/// A record under the id 1 is offered a type by a name with the id 2, so that the outcome tells the
-/// line: the record as it was, its type alone replaced, or its identifier too.
-fn line(old: &Record, new: &Record) -> u64 {
-    match (new == old, new.id == old.id) {
-        (true, _) => 0,
-        (false, true) => 1,
-        (false, false) => 2,
+/// The ids and the types that one table and the operations on it share. The types are families of
+/// relatives, and an id has one family, so that updates are often accepted.
+pub struct Pool {
+    first: u32,
+    apart: u32,
+    families: [Vec<Vec<Layer>>; 2],
+}
+
+/// A well-formed type, one that it is declared as or a concretization of, one that it coerces into,
+/// and one that is close.
+fn family(random: &mut Random) -> Vec<Vec<Layer>> {
+    let mut one = good_type(random, 16);
+    while !decode(&one).is_wellformed() {
+        one = good_type(random, 16);
     }
+    let mut less = likened(random, &one);
+    if random.once_in(2) && matches!(one[0][0], ARRAY | NAMED | SLICE) {
+        less = one.clone();
+        less[0] = [ARRAYLIKE, 0, 0];
+    }
+    let mut all = vec![one.clone(), less, coerced(random, &one)];
+    all.push(relative(random, &one));
+    for layers in &mut all {
+        layers.drain(..layers.len().saturating_sub(16));
+    }
+    all
 }
 
-fn update_lone(row: &mut Row, stored: &[u64], offered: &[u64], authorities: u64) {
-    let (own, new) = (authorities & 1 == 1, authorities & 2 == 2);
-    let old = Record {
-        id: 1,
-        authority: own,
-        place: 10,
-        stored: Ok(typed(stored)),
-    };
-    let before = symbol(&old, STALE);
-    let mut room = vec![KEPT; 48];
-    room[..stored.len()].copy_from_slice(stored);
-
-    let judged = match check(offered) {
-        Err(refusal) => Err(refusal),
-        Ok(layers) => {
-            update(&old, &Identifier::new(2, new, 20), &decode(&layers)).map_err(|n| (n, 0))
-        }
-    };
-    let mut after = room.clone();
-    let expected: Outcome = match judged {
-        Err(refusal) => (refusal, vec![before], after),
-        Ok(record) => {
-            let value = line(&old, &record);
-            if value > 0 {
-                let now = encode(record.stored.as_ref().unwrap());
-                after[..now.len()].copy_from_slice(&now);
-            }
-            let mark = if value > 0 { 0 } else { STALE };
-            ((0, value), vec![symbol(&record, mark)], after)
-        }
-    };
-
-    let mut lent = before;
-    // The symbol, its words and the offered ones are three objects.
-    let raw = unsafe {
-        tj_update_symbol(
-            &mut lent,
-            room.as_mut_ptr(),
-            room.len(),
-            2,
-            new,
-            20,
-            offered.as_ptr(),
-            offered.len(),
-        )
-    };
-    let found = ((raw.refusal, raw.value), vec![lent], room);
-    row.tell(found.0, expected, found, || {
-        format!("{stored:?} <- {offered:?}, authorities {own} {new}")
-    });
-}
-
-/// A table that both sides hold: ours, and the original's with the ids in the order of insertion.
-struct Both {
-    table: Vec<Symbol>,
-    store: Vec<u64>,
-    original: Table,
-    ids: Vec<u32>,
-}
-
-impl Both {
-    fn new(records: usize) -> Self {
-        Both {
-            table: vec![FREE; records],
-            store: vec![KEPT; 48 * records],
-            original: Table::default(),
-            ids: Vec::new(),
+impl Pool {
+    pub fn new(random: &mut Random) -> Self {
+        let any = random.next() as u32;
+        Pool {
+            first: random.pick(&[0, 1, u32::MAX - 2, any]),
+            // Odd, so that no id comes again.
+            apart: random.pick(&[1, u32::MAX, 0x0101_0101, any | 1]),
+            families: [family(random), family(random)],
         }
     }
 
-    /// What ours must hold: the records by their slots, and each type over the front of its part.
-    fn expected(&self, store: &[u64]) -> (Vec<Symbol>, Vec<u64>) {
-        let mut table = vec![FREE; self.table.len()];
-        let mut store = store.to_vec();
-        for (slot, id) in self.ids.iter().enumerate() {
-            let record = self.original.record(*id).expect("an inserted record");
-            table[slot] = symbol(&record, 0);
-            if let Ok(stored) = &record.stored {
-                let now = encode(stored);
-                store[48 * slot..48 * slot + now.len()].copy_from_slice(&now);
-            }
+    pub fn id(&self, number: usize) -> u32 {
+        let step = self.apart.wrapping_mul(number as u32);
+        self.first.wrapping_add(step)
+    }
+
+    /// A type for this id; those that come later in the family are the less concrete ones.
+    fn layers(&self, random: &mut Random, number: usize, first: usize) -> Vec<Layer> {
+        let family = &self.families[number % 2];
+        match random.below(12) {
+            0 => good_type(random, 16),
+            1 => self.families[(number + 1) % 2][0].clone(),
+            _ => family[first + random.below(family.len() - first)].clone(),
         }
-        (table, store)
     }
 
-    fn is_new(&self, id: u32) -> bool {
-        !self.ids.contains(&id)
+    fn offered(&self, random: &mut Random, number: usize, first: usize) -> Vec<u64> {
+        let layers = self.layers(random, number, first);
+        match random.once_in(12) {
+            true => damaged(random, &layers),
+            false => words(&layers),
+        }
     }
 
-    fn is_full(&self) -> bool {
-        self.ids.len() == self.table.len()
-    }
-}
-
-/// What is put: a type's words, or a mark.
-type Put = Result<Vec<u64>, u64>;
-
-/// Some operations on a table that starts empty.
-fn play(rows: &mut [Row; 4], random: &mut Random) {
-    let mut both = Both::new(1 + random.below(4));
-    let mut last: Vec<Layer> = good_type(random, 4);
-    for turn in 0..12 {
-        let id = 1 + random.below(5) as u32;
-        let name = Identifier::new(id, random.once_in(2), 100 + turn);
-        last = match random.below(3) {
-            0 => good_type(random, 4),
-            1 => relative(random, &last),
-            _ => last,
+    /// Any operation, mostly about one of so many ids.
+    pub fn asked(&self, random: &mut Random, ids: usize) -> Asked {
+        use Operation::*;
+        let number = match random.once_in(8) {
+            true => ids + random.below(2),
+            false => random.below(ids.max(1)),
         };
-        let offered = match random.below(8) {
-            0 => damaged(random, &last),
-            _ => words(&last),
+        let mark = mark(random);
+        let operation = match random.below(20) {
+            0 => PutNothing,
+            1 => PutPoison(mark),
+            2 => DeclarePoison(mark),
+            3 => Get,
+            4..=8 => DeclareType(self.offered(random, number, 1)),
+            _ => PutType(self.offered(random, number, 0)),
         };
-        match random.below(8) {
-            0 => change(
-                &mut rows[1],
-                &mut both,
-                &name,
-                Err(random.below(3) as u64),
-                false,
-            ),
-            1 => change(&mut rows[2], &mut both, &name, Ok(offered), true),
-            2 if random.once_in(2) => change(
-                &mut rows[2],
-                &mut both,
-                &name,
-                Err(random.below(3) as u64),
-                true,
-            ),
-            3 => nothing(&mut rows[0], &mut both, &name),
-            _ => change(&mut rows[0], &mut both, &name, Ok(offered), false),
+        Asked {
+            operation,
+            id: self.id(number),
+            authority: random.once_in(2),
+            place: place(random),
         }
-        get(&mut rows[3], &both, &name);
+    }
+
+    /// A table in order with so many records, and its store. What order says nothing of is anything:
+    /// the ids and fields of free records, a poisoned one's layers, a typed one's mark.
+    pub fn table(&self, random: &mut Random, records: usize, taken: usize) -> Lent {
+        let mut table = vec![FREE; records];
+        let mut store = room(PART * records);
+        for slot in 0..records {
+            let any = random.next();
+            let mut symbol = Symbol {
+                id: self.id(slot),
+                authority: random.once_in(2),
+                place: place(random),
+                state: 0,
+                layers: random.pick(&[0, 1, 16, 17, u64::MAX, any]),
+                mark: mark(random),
+            };
+            if slot >= taken {
+                symbol.id = self.id(random.below(records));
+            } else if random.once_in(4) {
+                symbol.state = 2;
+            } else {
+                let stored = words(&self.layers(random, slot, 1));
+                symbol.state = 1;
+                symbol.layers = stored.len() as u64 / 3;
+                store[PART * slot..PART * slot + stored.len()].copy_from_slice(&stored);
+            }
+            table[slot] = symbol;
+        }
+        Lent::new(&table, &store)
     }
 }
 
-fn nothing(row: &mut Row, both: &mut Both, name: &Identifier) {
-    both.original.put(name, None).expect("nothing is put");
-    let expected: Outcome = {
-        let (table, store) = both.expected(&both.store);
-        ((0, 0), table, store)
-    };
-    let raw = unsafe {
-        tj_put_nothing(
-            both.table.as_ptr(),
-            both.table.len(),
-            both.store.as_ptr(),
-            both.store.len(),
-            name.resolution_id,
-            name.is_authoritative,
-            name.location.place,
-        )
-    };
-    let found = (
-        (raw.refusal, raw.value),
-        both.table.clone(),
-        both.store.clone(),
-    );
-    row.tell(found.0, expected, found, || {
-        format!("nothing put under {name:?}")
-    });
+fn mark(random: &mut Random) -> u64 {
+    let any = random.next();
+    random.pick(&[0, 0, 1, 99, u64::MAX, any])
 }
 
-/// Puts or forward declares, on both sides.
-fn change(row: &mut Row, both: &mut Both, name: &Identifier, put: Put, forward: bool) {
-    let store = both.store.clone();
-    let answer = changed(both, name, &put, forward);
-    let (table, store) = both.expected(&store);
-    let expected: Outcome = (answer, table, store);
+fn place(random: &mut Random) -> u64 {
+    let any = random.next();
+    random.pick(&[0, 1, 10, u64::MAX, any])
+}
 
-    let (records, count) = (both.table.as_mut_ptr(), both.table.len());
-    let (room, size) = (both.store.as_mut_ptr(), both.store.len());
-    let (id, authority, place) = (
-        name.resolution_id,
-        name.is_authoritative,
-        name.location.place,
-    );
-    // The table, its store and the offered words are three objects.
-    let raw = unsafe {
-        match (&put, forward) {
-            (Ok(t), false) => tj_put_type(
-                records,
-                count,
-                room,
-                size,
-                id,
+/// Up to 200 operations on a table of so many records, which is empty at first, full or in between.
+/// After each the id is looked up, with and without authority.
+fn play(rows: &mut Rows, records: usize, random: &mut Random) {
+    let pool = Pool::new(random);
+    let some = random.below(records + 1);
+    let taken = random.pick(&[0, some, records]);
+    let mut lent = pool.table(random, records, taken);
+    let mut judge = Judge::new(lent.table().to_vec(), lent.store().to_vec());
+    for _ in 0..=random.below(200) {
+        let asked = pool.asked(random, records);
+        if !rows.ask(&mut judge, &mut lent, &asked) {
+            return;
+        }
+        for authority in [false, true] {
+            let again = Asked {
+                operation: Operation::Get,
                 authority,
-                place,
-                t.as_ptr(),
-                t.len(),
-            ),
-            (Ok(t), true) => tj_forward_declare_type(
-                records,
-                count,
-                room,
-                size,
-                id,
-                authority,
-                place,
-                t.as_ptr(),
-                t.len(),
-            ),
-            (Err(mark), false) => {
-                tj_put_poison(records, count, room, size, id, authority, place, *mark)
-            }
-            (Err(mark), true) => {
-                tj_forward_declare_poison(records, count, room, size, id, authority, place, *mark)
+                ..asked
+            };
+            if !rows.ask(&mut judge, &mut lent, &again) {
+                return;
             }
         }
-    };
-    let found = (
-        (raw.refusal, raw.value),
-        both.table.clone(),
-        both.store.clone(),
+    }
+    assert!(
+        records > 128 || judge.agrees(),
+        "the table told is not the map's"
     );
-    row.tell(found.0, expected, found, || {
-        format!("{put:?} under {name:?}, forward {forward}")
-    });
-}
-
-/// The original's side, with document 01's answer.
-fn changed(both: &mut Both, name: &Identifier, put: &Put, forward: bool) -> (u64, u64) {
-    let value = match put {
-        Ok(offered) => match check(offered) {
-            Err(refusal) => return refusal,
-            Ok(layers) => Ok(decode(&layers)),
-        },
-        Err(mark) => Err(*mark),
-    };
-    let id = name.resolution_id;
-    let new = both.is_new(id);
-    if new && both.is_full() {
-        return (13, 0);
-    }
-    let old = both.original.record(id);
-    if forward {
-        both.original.forward_declare(name, value);
-    } else if let Err(mark) = value {
-        both.original.poison(name, mark);
-    } else if let Err(number) = both.original.put(name, Some(value)) {
-        return (number, 0);
-    }
-    if new {
-        both.ids.push(id);
-        return (0, 3);
-    }
-    match put {
-        Ok(_) if !forward => {
-            let now = both.original.record(id).unwrap();
-            (0, put_line(&old.unwrap(), &now))
-        }
-        _ => (0, 4),
-    }
-}
-
-/// As `line`, for a name with the record's own id: every place is another one.
-fn put_line(old: &Record, new: &Record) -> u64 {
-    match (new == old, new.place == old.place) {
-        (true, _) => 0,
-        (false, true) => 1,
-        (false, false) => 2,
-    }
-}
-
-fn get(row: &mut Row, both: &Both, name: &Identifier) {
-    let (answer, expected) = match both.original.get(name) {
-        None => ((0, 0), KEPT),
-        Some(Ok(_)) => {
-            let slot = both.ids.iter().position(|id| *id == name.resolution_id);
-            ((0, 1), slot.unwrap() as u64)
-        }
-        Some(Err(mark)) => ((0, 2), mark),
-    };
-    let mut found = KEPT;
-    let raw = unsafe {
-        tj_get_symbol(
-            both.table.as_ptr(),
-            both.table.len(),
-            both.store.as_ptr(),
-            both.store.len(),
-            name.resolution_id,
-            name.is_authoritative,
-            &mut found,
-        )
-    };
-    let ours = (raw.refusal, raw.value);
-    row.tell(ours, (answer, expected), (ours, found), || {
-        format!("{name:?}")
-    });
 }

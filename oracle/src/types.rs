@@ -241,7 +241,7 @@ fn change(random: &mut Random, all: &mut Vec<Layer>) {
 }
 
 /// What this type coerces into, by value or by address, where its outer kind allows it.
-fn coerced(random: &mut Random, layers: &[Layer]) -> Vec<Layer> {
+pub fn coerced(random: &mut Random, layers: &[Layer]) -> Vec<Layer> {
     let shapes: &[&[u64]] = match layers[0][0] {
         ARRAY | NAMED => &[
             &[SLICE],
@@ -264,7 +264,7 @@ fn coerced(random: &mut Random, layers: &[Layer]) -> Vec<Layer> {
 }
 
 /// What this type is a concretization of: an Arraylike without, and for some arrays within.
-fn likened(random: &mut Random, layers: &[Layer]) -> Vec<Layer> {
+pub fn likened(random: &mut Random, layers: &[Layer]) -> Vec<Layer> {
     let shape: &[u64] = match layers[0][0] {
         ARRAY | NAMED | SLICE | ENDLESS => &[ARRAYLIKE],
         SLICE_POINTER if random.once_in(2) => &[ARRAYLIKE],

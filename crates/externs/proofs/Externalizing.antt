@@ -10,7 +10,7 @@ use lib.ListN.{length, getD, length-take, length-drop}
 use borrow.Author.Tests.{eqb-true, not-true, not-false}
 use Rattle.kinds.specs.Kind as kind
 use Rattle.kinds.specs.Words.{words}
-use Rattle.layers.specs.Layers.{Layer, layer, layers, isReference}
+use Rattle.layers.specs.Layers.{Layer, layer, layers, isReference, spelled}
 use Rattle.layers.specs.Answer.{Answer, given, nothing, refused, ofChecked}
 use Rattle.layers.specs.declared.answers.Checked.{Checked}
 use Rattle.layers.specs.declared.answers.Checked.the-variants.{Good, Refused}
@@ -18,9 +18,9 @@ use Rattle.layers.proofs.Words.{head, rest, none, more}
 use Rattle.buffers.specs.Written.{written}
 use Rattle.buffers.proofs.Writing.{part, put, put-back, front-last}
 use Rattle.externs.specs.Fixing.{under, kept, externalized}
-use Rattle.externs.specs.Outcome.{spelled, told, over}
+use Rattle.externs.specs.Outcome.{told, over}
 use Rattle.externs.specs.Room.{Room}
-use Rattle.externs.proofs.Spelling.{spelled-length, spelled-layers}
+use Rattle.layers.proofs.Spelling.{spelled-length, spelled-layers}
 use Rattle.externs.proofs.Outcomes.{stays}
 
 -- the kinds that externalizing goes inside of, and what becomes of such a layer

@@ -11,21 +11,20 @@ use lib.Seq.{take-at, length-take-le}
 use borrow.Author.Tests.{eq-eqb, ne-eqb, lt-ltb, le-ltb, not-true, not-false}
 use Rattle.kinds.specs.Kind as kind
 use Rattle.kinds.specs.Words.{words}
-use Rattle.layers.specs.Layers.{Layer, layers, outer, inside}
+use Rattle.layers.specs.Layers.{Layer, layers, outer, inside, spelled}
 use Rattle.layers.specs.Answer.{Answer, given, nothing, refused, ofChecked}
-use Rattle.layers.specs.Check.{badCount, checkOf}
+use Rattle.layers.specs.Check.{checkOf}
 use Rattle.layers.specs.declared.answers.Checked.{Checked}
 use Rattle.layers.specs.declared.answers.Checked.the-variants.{Good, Refused}
-use Rattle.layers.proofs.Checks.{start}
 use Rattle.layers.proofs.Words.{inner-layers}
 use Rattle.forms.specs.Formed.{wellFormed}
 use Rattle.buffers.specs.Written.{written}
 use Rattle.buffers.proofs.Writing.{fits}
 use Rattle.externs.specs.Fixing.{parameter, returned, member, under, externalized, externalize, fixedExtern, fixedPlain, fixed}
-use Rattle.externs.specs.Outcome.{spelled, delivered, told, over}
-use Rattle.externs.specs.Room.{Whole}
+use Rattle.externs.specs.Outcome.{delivered, told, over}
+use Rattle.layers.proofs.Accepted.{Whole, accepted-whole}
 use Rattle.externs.specs.Answers.{fixedType}
-use Rattle.externs.proofs.Spelling.{spelled-length, spelled-layers, layers-spelled}
+use Rattle.layers.proofs.Spelling.{spelled-length, spelled-layers, layers-spelled}
 use Rattle.externs.proofs.Externalizing.{told-refused, told-given, same-length}
 
 -- the answer and the buffer of one outcome are those of an equal one
@@ -34,15 +33,7 @@ carried o q r b l e p = rw e at p
 
 -- words that pass the checks are whole layers, and so are those inside
 pub checked-whole : (ws : List ℕ) (r : Checked) (i : ℕ) → ofChecked r ≡ checkOf ws → r ≡ Good i → Whole ws
-unfolding checkOf
-checked-whole ws r i e h = by-count (badCount (length ws)) refl
-  where
-    by-count : (b : Bool) → badCount (length ws) ≡ b → Whole ws
-    by-count true c =
-        let q : refused 1 0 ≡ checkOf ws = rw c in
-        let z : _≡_ {A = ℕ} 0 1 = cc in
-        absurd (omega arith)
-    by-count false c = let s = start ws c in record { whole = s .whole; few = s .few }
+checked-whole ws r i e h = accepted-whole ws i (sym e ∙ rw h)
 
 pub whole-inside : (ws l : List ℕ) → Whole ws → l ≡ drop 3 ws → Whole l
 whole-inside ws l w e =

@@ -6,12 +6,12 @@ use Prim.Native.Nat.{ℕ, _+_, _%_, _≤_, _<_}
 use native.Mathlib.Omega.{arith}
 use lib.ListN.{length, length-append}
 use borrow.Author.Tests.{lt-ltb, le-ltb}
-use Rattle.layers.specs.Layers.{Layer, layers}
+use Rattle.layers.specs.Layers.{Layer, layers, spelled}
 use Rattle.layers.specs.Answer.{Answer, given, refused}
 use Rattle.buffers.specs.Written.{written}
 use Rattle.buffers.proofs.Writing.{part, put, front-first}
-use Rattle.externs.specs.Outcome.{spelled, delivered, told, over}
-use Rattle.externs.proofs.Spelling.{spelled-length, spelled-append, spelled-layers}
+use Rattle.externs.specs.Outcome.{delivered, told, over}
+use Rattle.layers.proofs.Spelling.{spelled-length, spelled-append, spelled-layers}
 
 -- a refusal is told, and the buffer stays
 pub stays : (o : Answer (List Layer)) (n p : ℕ) (b : List ℕ) → o ≡ refused n p → (refused n p ≡ told o) × (b ≡ over o b)

@@ -9,13 +9,13 @@ use lib.Dec.{eqb, ltb}
 use lib.ListN.{length}
 use borrow.Author.Tests.{eqb-true}
 use Rattle.kinds.specs.Kind as kind
-use Rattle.layers.specs.Layers.{Layer, layer, layers, outer, inside, isReference, holdsInner}
+use Rattle.layers.specs.Layers.{Layer, layer, layers, outer, inside, isReference, holdsInner, spelled}
 use Rattle.layers.specs.Answer.{Answer, given, nothing, refused, next}
 use Rattle.layers.specs.Check.{Place, at, nowhere, badCount, badLayer, misplaced, checkOf, unless}
 use Rattle.forms.specs.Formed.{wellFormed, inner, element}
 use Rattle.forms.proofs.Fits.{one, or, references, or-false}
 use Rattle.externs.specs.Fixing.{parameter, returned, member, under, kept, externalized, externalize, fixedExtern, fixedPlain, fixed}
-use Rattle.externs.specs.Outcome.{spelled, delivered}
+use Rattle.externs.specs.Outcome.{delivered}
 use Rattle.externs.specs.Answers.{fixedType}
 use Rattle.externs.proofs.Externalizing.{goes, turned, ways, no-type, from-under, same-length}
 

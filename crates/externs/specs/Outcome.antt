@@ -1,17 +1,12 @@
 -- From the type that was made to the answer and the words that are lent.
 use mathlib.Core.Bool.{cond}
-use mathlib.Core.List.{List, [], _∷_}
+use mathlib.Core.List.{List}
 use Prim.Native.Nat.{ℕ}
 use lib.Dec.{ltb}
 use lib.ListN.{length}
-use Rattle.layers.specs.Layers.{Layer}
+use Rattle.layers.specs.Layers.{Layer, spelled}
 use Rattle.layers.specs.Answer.{Answer, given, nothing, refused}
 use Rattle.buffers.specs.Written.{written}
-
--- The words of a run of layers.
-unfoldable pub spelled : List Layer → List ℕ
-spelled [] = []
-spelled (x ∷ a) = x .kind ∷ x .name ∷ x .number ∷ spelled a
 
 -- "14 output too short for this result; 15 result over 16 layers", in the order "15, 14".
 unfoldable pub delivered : ℕ → Answer (List Layer) → Answer (List Layer)

@@ -4,11 +4,6 @@ use mathlib.Core.List.{List}
 use Prim.Native.Nat.{ℕ, _+_, _%_, _≤_}
 use lib.ListN.{length}
 
--- Whole layers, 16 at most.
-pub record Whole (ws : List ℕ) : Type 0 where
-  pub whole : length ws % 3 ≡ 0
-  pub few : length ws ≤ 48
-
 -- Room in other words for those of a type that starts at a place.
 pub record Room (ws : List ℕ) (place : ℕ) (made : List ℕ) : Type 0 where
   pub whole : length ws % 3 ≡ 0

@@ -14,7 +14,8 @@ ghost use Rattle.kinds.specs.Words.{words};
 ghost use Rattle.layers.specs.Layers.{layers, isReference};
 ghost use Rattle.layers.specs.Answer.{ofChecked};
 ghost use Rattle.externs.specs.Fixing as fixing;
-ghost use Rattle.externs.specs.Room.{Whole, Room};
+ghost use Rattle.layers.proofs.Accepted.{Whole};
+ghost use Rattle.externs.specs.Room.{Room};
 ghost use Rattle.externs.specs.Outcome.{told, over, answerIn, bufferIn};
 
 fn is_kept(k: u64) -> bool

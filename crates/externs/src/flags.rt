@@ -11,7 +11,7 @@ ghost use lib.Dec.{eqb};
 ghost use Rattle.layers.specs.Layers.{layers};
 ghost use Rattle.layers.specs.Answer.{given, ofChecked};
 ghost use Rattle.externs.specs.Fixing as fixing;
-ghost use Rattle.externs.specs.Room.{Whole};
+ghost use Rattle.layers.proofs.Accepted.{Whole};
 ghost use Rattle.externs.specs.Outcome.{answerIn, bufferIn};
 ghost use Rattle.externs.specs.Answers.{fixedAnswer, fixedBuffer};
 

@@ -4,7 +4,7 @@ ghost use mathlib.Core.Path.{_≡_};
 ghost use mathlib.Core.List.{_++_};
 ghost use Rattle.layers.specs.Layers.{layers};
 ghost use Rattle.layers.specs.Answer.{given, ofChecked};
-ghost use Rattle.externs.specs.Room.{Whole};
+ghost use Rattle.layers.proofs.Accepted.{Whole};
 ghost use Rattle.externs.specs.Outcome.{answerIn, bufferIn};
 
 // The most words that a type has.

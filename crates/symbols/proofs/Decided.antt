@@ -6,7 +6,7 @@ use mathlib.Core.List.{List, [], _++_, append-nil}
 use Prim.Native.Nat.{ℕ, _+_, _-_, _*_, _≤_, _<_}
 use native.Mathlib.Omega.{arith}
 use lib.Dec.{ltb}
-use lib.ListN.{length, take, drop, getD, set, length-drop, drop-of-length-le}
+use lib.ListN.{length, take, drop, getD, length-drop, drop-of-length-le}
 use lib.Seq.{take-all}
 use mir.Syntax.{w64}
 use mir.Val.{Fits}
@@ -24,7 +24,7 @@ use Rattle.tables.proofs.Ordered.{Ordered, ordered}
 use Rattle.answers.specs.declared.flat.Answer.{Answer}
 use Rattle.answers.specs.Flat.{notAccepted}
 use Rattle.updates.specs.declared.record.Updated.{Updated}
-use Rattle.symbols.specs.Changes.{offeredCheck, placeOf, unless, wayOf, Deed, overwrites, inserts, seen, outcomeBy, nowhere, changeOf, storeOf}
+use Rattle.symbols.specs.Changes.{offeredCheck, placeOf, unless, wayOf, overwrites, inserts, seen, outcomeBy, nowhere, inSlot, changeOf, storeOf}
 use Rattle.symbols.specs.declared.ways.Operation.{Operation}
 use Rattle.symbols.specs.declared.ways.Way.{Way}
 use Rattle.symbols.specs.declared.ways.Way.the-variants as way
@@ -261,9 +261,9 @@ module _ (op : Operation) (id : ℕ) (authority : Bool) (place mark : ℕ) (offe
 
       module _ (s : Symbol) (u : Updated) (after : List ℕ) (q : s ≡ rowUnder flat k id)
           (d : u ≡ seen (overwrites op s (tail k) id authority place mark offered)) where
-        pub chose-found : record { slot = k; symbol = u .symbol; answer = u .answer } ≡ changeOf op id authority place mark offered table store
+        pub chose-found : (r : Change) → r ≡ inSlot k u → r ≡ changeOf op id authority place mark offered table store
         unfolding changeOf
-        chose-found = rw (← e, h, d, tail-is k, row-is s q)
+        chose-found r i = i ∙ (rw (← e, h, d, tail-is k, row-is s q))
 
         pub kept-found : after ≡ overwrites op s (tail k) id authority place mark offered .words →
             take (k * 48) store ++ (after ++ drop (length store - k * 48) (drop (k * 48) store))
@@ -284,9 +284,9 @@ module _ (op : Operation) (id : ℕ) (authority : Bool) (place mark : ℕ) (offe
       new-part = near k new .1
 
       module _ (u : Updated) (after : List ℕ) (d : u ≡ seen (inserts op (tail k) id authority place mark offered)) where
-        pub chose-new : record { slot = k; symbol = u .symbol; answer = u .answer } ≡ changeOf op id authority place mark offered table store
+        pub chose-new : (r : Change) → r ≡ inSlot k u → r ≡ changeOf op id authority place mark offered table store
         unfolding changeOf
-        chose-new = rw (← e, h, d, tail-is k)
+        chose-new r i = i ∙ (rw (← e, h, d, tail-is k))
 
         pub kept-new : after ≡ inserts op (tail k) id authority place mark offered .words →
             take (k * 48) store ++ (after ++ drop (length store - k * 48) (drop (k * 48) store))

@@ -1,31 +1,34 @@
 -- What follows from the rules of a table alone.
 -- Assumes nothing.
 use mathlib.Core.Path.{_≡_, refl, sym, ap, subst, _∙_}
-use mathlib.Core.Bool.{Bool, true, false, cond, not, _&&_, and-false, true≢false, false≢true}
+use mathlib.Core.Bool.{Bool, true, false, cond, not, _&&_, _||_, and-false, true≢false, false≢true}
 use mathlib.Core.List.{List, _++_}
 use mathlib.Core.Logic.{_≢_}
-use Prim.Native.Nat.{ℕ, _+_, _-_, _*_, _/_, _≤_, _<_}
+use Prim.Native.Nat.{ℕ, _+_, _-_, _*_, _/_, _%_, _≤_, _<_}
 use native.Mathlib.Omega.{arith}
 use lib.Dec.{eqb, leb, ltb}
 use lib.ListN.{length, take, drop, getD, set, length-set, length-append, length-drop, take-append-drop}
 use lib.Seq.{set-getD, length-take-le, getD-set-same, getD-set-other, drop-at}
-use borrow.Author.Tests.{ltb-true, ltb-false, eq-eqb, lt-ltb, le-ltb, lt-leb, le-leb, leb-true, leb-false, eqb-false}
+use borrow.Author.Tests.{ltb-true, ltb-false, eq-eqb, ne-eqb, lt-ltb, le-ltb, lt-leb, leb-true, leb-false, eqb-false}
 use Rattle.layers.specs.Answer as paper
 use Rattle.layers.specs.Answer.{given, nothing, refused}
 use Rattle.layers.specs.Layers.{layers}
 use Rattle.layers.specs.Check as check
 use Rattle.layers.specs.Check.{Place, at, nowhere, badCount, badLayer, misplaced, checkOf}
+use Rattle.relations.specs.Relations.{identical, concretization}
+use Rattle.relations.proofs.Theorems.{identical-reflexive}
 use Rattle.buffers.specs.Written.{written}
 use Rattle.tables.specs.declared.symbol.Symbol.{Symbol}
 use Rattle.tables.specs.Rows.{vacant}
-use Rattle.tables.specs.Order.{free, inOrder, takenFirst, taken, hasId, repeats, slotFor, firstFree}
+use Rattle.tables.specs.Order.{free, passes, inOrder, takenFirst, taken, hasId, repeats, slotFor, firstFree}
 use Rattle.tables.proofs.Sentences.{slot-has}
 use Rattle.tables.proofs.Ordered.{Ordered, ordered, in-order}
 use Rattle.tables.proofs.Setting.{states-set, state-at, first-set, first-new, ids-kept, ids-new, absent-id, pass-at, pass-set, slot-taken, slot-other, slot-kept, slot-new, free-at, words-before, words-after, turned-round}
 use Rattle.answers.specs.declared.flat.Answer.{Answer}
 use Rattle.answers.specs.Flat.{accepted, notAccepted}
+use Rattle.updates.specs.Updates.{storedOf}
 use Rattle.updates.proofs.Cases.{by-lines}
-use Rattle.updates.proofs.Theorems.{poison-wins as update-poison}
+use Rattle.updates.proofs.Theorems.{poison-wins as update-poison, accepted-holds-offered}
 use Rattle.symbols.specs.Changes.{offeredCheck, placeOf, unless, wayOf, typed, Deed, deed, overwrites, inserts, Outcome, atSlot, outcomeBy, outcome}
 use Rattle.symbols.specs.Gets.{markFor, got, storedType, typeIn, typeOf}
 use Rattle.symbols.specs.declared.get.Got.{Got}
@@ -35,7 +38,7 @@ use Rattle.symbols.specs.declared.ways.Operation.the-variants as operati
 use Rattle.symbols.specs.declared.ways.Way.{Way}
 use Rattle.symbols.specs.declared.ways.Way.the-variants as way
 use Rattle.symbols.proofs.Decided.{Within, found-is, found-in, found-has, new-is, new-in, new-absent, found-checked, new-checked, notRefused}
-use Rattle.symbols.proofs.Deeds.{Fine, inserts-fine, overwrites-fine, few-words, words-there}
+use Rattle.symbols.proofs.Deeds.{Fine, inserts-fine, overwrites-fine, few-words, whole-layers, words-there}
 
 -- a refusal's number is not 0
 abbrev checkNumbered : paper.Answer ℕ → Bool
@@ -85,8 +88,9 @@ unfolding wayOf
 way-numbered op id offered table store =
     unless-numbered (offeredCheck op offered) (placeOf id table store) (offered-numbered op offered) (place-numbered id table store)
 
-abbrev pub Refuses : Answer → Type 0
-Refuses a = a .refusal ≡ 0 → ⊥
+-- refused, or accepted with 0
+abbrev pub Quiet : Answer → Type 0
+Quiet a = a .refusal ≡ 0 → a .value ≡ 0
 
 module _ (op : Operation) (id : ℕ) (authority : Bool) (place mark : ℕ) (offered : List ℕ) (table : List Symbol) (store : List ℕ) where
   abbrev by : Way → Outcome
@@ -98,34 +102,38 @@ module _ (op : Operation) (id : ℕ) (authority : Bool) (place mark : ℕ) (offe
   abbrev tail : ℕ → List ℕ
   tail k = drop (k * 48) store
 
-  -- A refusal leaves every record and every word.
+  -- What is refused, or accepted with 0, leaves every record and every word.
   abbrev Kept : ℕ → Symbol → List ℕ → Answer → Type 0
-  Kept k s ws a = Refuses a → (set table k s ≡ table) × (take (k * 48) store ++ ws ≡ store)
+  Kept k s ws a = Quiet a → (set table k s ≡ table) × (take (k * 48) store ++ ws ≡ store)
 
   same : (k : ℕ) (a : Answer) → Kept k (getD table k vacant) (tail k) a
   same k a h = (set-getD table k vacant, take-append-drop (k * 48) store)
 
-  found-refused : (op : Operation) (k : ℕ) → let d = overwrites op (getD table k vacant) (tail k) id authority place mark offered in Kept k (d .symbol) (d .words) (d .answer)
-  found-refused operation.PutType k =
-      by-lines (getD table k vacant) (tail k) id authority place offered (Kept k) (same k (accepted 0)) (same k (notAccepted 4 0)) (λ h. absurd (h refl)) (λ h. absurd (h refl)) (same k (notAccepted 7 0))
-  found-refused operation.PutPoison k = λ h. absurd (h refl)
-  found-refused operation.ForwardType k = λ h. absurd (h refl)
-  found-refused operation.ForwardPoison k = λ h. absurd (h refl)
+  found-quiet : (op : Operation) (k : ℕ) → let d = overwrites op (getD table k vacant) (tail k) id authority place mark offered in Kept k (d .symbol) (d .words) (d .answer)
+  found-quiet operation.PutType k =
+      by-lines (getD table k vacant) (tail k) id authority place offered (Kept k) (same k (accepted 0)) (same k (notAccepted 4 0))
+      (λ h. absurd (omega (arith, h refl))) (λ h. absurd (omega (arith, h refl))) (same k (notAccepted 7 0))
+  found-quiet operation.PutPoison k = λ h. absurd (omega (arith, h refl))
+  found-quiet operation.ForwardType k = λ h. absurd (omega (arith, h refl))
+  found-quiet operation.ForwardPoison k = λ h. absurd (omega (arith, h refl))
 
-  new-refused : (op : Operation) (k : ℕ) → let d = inserts op (tail k) id authority place mark offered in Kept k (d .symbol) (d .words) (d .answer)
-  new-refused operation.PutType k = λ h. absurd (h refl)
-  new-refused operation.PutPoison k = λ h. absurd (h refl)
-  new-refused operation.ForwardType k = λ h. absurd (h refl)
-  new-refused operation.ForwardPoison k = λ h. absurd (h refl)
+  new-quiet : (op : Operation) (k : ℕ) → let d = inserts op (tail k) id authority place mark offered in Kept k (d .symbol) (d .words) (d .answer)
+  new-quiet operation.PutType k = λ h. absurd (omega (arith, h refl))
+  new-quiet operation.PutPoison k = λ h. absurd (omega (arith, h refl))
+  new-quiet operation.ForwardType k = λ h. absurd (omega (arith, h refl))
+  new-quiet operation.ForwardPoison k = λ h. absurd (omega (arith, h refl))
 
-  way-refused : (w : Way) → Refuses (by w .answer) → (by w .table ≡ table) × (by w .store ≡ store)
-  way-refused (way.Refused n p) h = (refl, refl)
-  way-refused (way.Found k) h = found-refused op k h
-  way-refused (way.Free k) h = new-refused op k h
+  way-quiet : (w : Way) → Quiet (by w .answer) → (by w .table ≡ table) × (by w .store ≡ store)
+  way-quiet (way.Refused n p) h = (refl, refl)
+  way-quiet (way.Found k) h = found-quiet op k h
+  way-quiet (way.Free k) h = new-quiet op k h
 
-  pub refused-changes-nothing : Refuses (after .answer) → (after .table ≡ table) × (after .store ≡ store)
+  pub unchanged : Quiet (after .answer) → (after .table ≡ table) × (after .store ≡ store)
   unfolding outcome
-  refused-changes-nothing h = way-refused (wayOf op id offered table store) h
+  unchanged h = way-quiet (wayOf op id offered table store) h
+
+  pub refused-changes-nothing : (after .answer .refusal ≡ 0 → ⊥) → (after .table ≡ table) × (after .store ≡ store)
+  refused-changes-nothing h = unchanged (λ e. absurd (h e))
 
   -- A table that was in order stays in order.
   long : (k : ℕ) → Within table store k → 48 ≤ length (tail k)
@@ -292,8 +300,7 @@ module _ (op : Operation) (id : ℕ) (authority : Bool) (place mark : ℕ) (offe
         ),
       )
 
-  -- Get after an accepted put or forward declaration of a type answers that type, where something changed; and by
-  -- `unchanged` of the update, where nothing changed it answers what it answered.
+  -- Get after an accepted put or forward declaration of a type answers that type, where something changed.
   abbrev Offers : Operation → Type 0
   Offers operation.PutType = Unit
   Offers operation.PutPoison = ⊥
@@ -348,12 +355,13 @@ module _ (op : Operation) (id : ℕ) (authority : Bool) (place mark : ℕ) (offe
   unfolding outcome
   get-finds-what-was-put t r v = way-finds (wayOf op id offered table store) refl t r v
 
+  held : (o : Outcome) → Holds o → typeOf id (o .table) (o .store) ≡ offered
+  unfolding typeOf
+  held o h = ap (λ (g : Got). typeIn g (o .table) (o .store)) (h .1 .0 true) ∙ h .1 .1
+
   pub get-type-of-what-was-put : Offers op → after .answer .refusal ≡ 0 → (after .answer .value ≡ 0 → ⊥) →
       typeOf id (after .table) (after .store) ≡ offered
-  unfolding typeOf
-  get-type-of-what-was-put t r v =
-      let h = get-finds-what-was-put t r v in
-      ap (λ (g : Got). typeIn g (after .table) (after .store)) (h .1 .0 true) ∙ h .1 .1
+  get-type-of-what-was-put t r v = held after (get-finds-what-was-put t r v)
 
 -- Poison wins until a forward declaration: a put of a type under a poisoned name is accepted and changes nothing.
 module _ (id : ℕ) (authority : Bool) (place mark : ℕ) (offered : List ℕ) (table : List Symbol) (store : List ℕ) where
@@ -400,3 +408,99 @@ module _ (id : ℕ) (authority : Bool) (place mark : ℕ) (offered : List ℕ) (
       by-check (given n) g h = h
       by-check nothing g h = h
       by-check (refused n p) g h = absurd (false≢true g)
+
+first-test : (a b : Bool) → cond a b false ≡ true → a ≡ true
+first-test true b e = refl
+first-test false b e = absurd (false≢true e)
+
+-- After an accepted put of a type under a name that is not poisoned, the type that get answers is identical to the offered
+-- one or a concretization of it.
+module _ (id : ℕ) (authority : Bool) (place mark : ℕ) (offered : List ℕ) (table : List Symbol) (store : List ℕ) where
+  abbrev put : Outcome
+  put = outcome operation.PutType id authority place mark offered table store
+
+  abbrev part : ℕ → List ℕ
+  part k = drop (k * 48) store
+
+  abbrev Suits : List ℕ → Type 0
+  Suits ws = (identical (layers ws) (layers offered) || concretization (layers ws) (layers offered)) ≡ true
+
+  -- a typed record at the slot of its id is what get finds, and its words are those that the update speaks of
+  typed-there : (k : ℕ) (d : Deed) → Within table store k → Fine id (part k) d → d .symbol .state ≡ 1 →
+      slotFor id (set table k (d .symbol)) ≡ k → inOrder (set table k (d .symbol)) (take (k * 48) store ++ d .words) ≡ true →
+      typeOf id (set table k (d .symbol)) (take (k * 48) store ++ d .words) ≡ storedOf (d .symbol .layers) (d .words)
+  unfolding typeOf got storedType storedOf passes
+  typed-there k d w f one s order =
+      let table′ = set table k (d .symbol) in
+      let store′ = take (k * 48) store ++ d .words in
+      let n : length table′ ≡ length table = length-set table k (d .symbol) in
+      let full : length store′ ≡ length table′ * 48 = ordered table′ store′ order .full in
+      let is : getD table′ k vacant ≡ d .symbol = getD-set-same table k (d .symbol) vacant (w .below) in
+      let room : k * 48 ≤ length store = omega (arith, w .below, w .order .full) in
+      let below : k < length table′ = omega (arith, n, w .below) in
+      let inside : k < length store′ / 48 = omega (arith, n, full, w .below) in
+      let few : d .symbol .layers ≤ 16 = leb-true (d .symbol .layers) 16 (first-test (leb (d .symbol .layers) 16) _ (rw one at (f .pass))) in
+      let sized : length (d .words) ≡ length store - k * 48 = f .sized ∙ length-drop (k * 48) store in
+      let long : 48 ≤ length (d .words) = omega (arith, sized, w .below, w .order .full) in
+      let held : d .symbol .layers ≤ length (d .words) / 3 = omega (arith, few, long) in
+      let words : drop (k * 48) store′ ≡ d .words = drop-at (take (k * 48) store) (d .words) (k * 48) (length-take-le (k * 48) store room) in
+      let found : got id true table′ store′ ≡ got′.Typed k = rw (order, s, lt-leb (length table′) k below, is, eq-eqb (d .symbol .state) 1 one) in
+      let there : storedType store′ k (getD table′ k vacant .layers) ≡ storedOf (d .symbol .layers) (d .words) =
+      rw (is, le-ltb 16 (d .symbol .layers) few, lt-leb (length store′ / 48) k inside, words, le-ltb (length (d .words) / 3) (d .symbol .layers) held) in
+      ap (λ (g : Got). typeIn g table′ store′) found ∙ there
+
+  module _ (k : ℕ) (e : wayOf operation.PutType id offered table store ≡ way.Found k) (clean : (m : ℕ) → got id true table store ≡ got′.Poisoned m → ⊥) where
+    abbrev s : Symbol
+    s = getD table k vacant
+
+    in-table : Within table store k
+    in-table = found-in operation.PutType id offered table store k e
+
+    not-poisoned : s .state ≡ 2 → ⊥
+    unfolding got
+    not-poisoned two =
+        let at = found-is operation.PutType id offered table store k e in
+        clean (s .mark)
+        (rw (in-order table store (in-table .order), ← at, lt-leb (length table) k (in-table .below), ne-eqb (s .state) 1 (λ q. omega (arith, q, two))))
+
+    is-typed : s .state ≡ 1
+    is-typed =
+        let at = found-is operation.PutType id offered table store k e in
+        let below = subst (λ (j : ℕ). j < length table) at (in-table .below) in
+        let taken-there : s .state ≢ 0 = eqb-false (s .state) 0 (subst (λ (j : ℕ). free (getD table j vacant) ≡ false) (sym at) (slot-taken id table below)) in
+        let known : s .state ≤ 2 = leb-true (s .state) 2 (state-at table k (in-table .order .states) (in-table .below)) in
+        omega (arith, known, taken-there, not-poisoned)
+
+    abbrev d : Deed
+    d = overwrites operation.PutType s (part k) id authority place mark offered
+
+    still-typed : d .symbol .state ≡ 1
+    still-typed = by-lines s (part k) id authority place offered (λ r zs a. r .state ≡ 1) is-typed is-typed refl refl is-typed
+
+    found-suits : d .answer .refusal ≡ 0 → Suits (typeOf id (set table k (d .symbol)) (take (k * 48) store ++ d .words))
+    found-suits r =
+        let at = found-is operation.PutType id offered table store k e in
+        let below = subst (λ (j : ℕ). j < length table) at (in-table .below) in
+        let fine = found-fine operation.PutType id authority place mark offered table store k e in
+        let good = found-checked operation.PutType id offered table store k e in
+        let slot = ap (λ (j : ℕ). slotFor id (set table j (d .symbol))) at ∙ slot-kept id table (d .symbol) below (fine .named) (fine .taken) ∙ sym at in
+        let order = in-order (set table k (d .symbol)) (take (k * 48) store ++ d .words) (found-order operation.PutType id authority place mark offered table store k e) in
+        let room : length offered ≤ length (part k) = simp length-drop (omega (arith, few-words offered good, in-table .below, in-table .order .full)) in
+        let whole : length offered % 3 ≡ 0 = omega (arith, whole-layers offered good) in
+        subst Suits (sym (typed-there k d in-table fine still-typed slot order))
+        (accepted-holds-offered s (part k) id authority place offered room whole not-poisoned r)
+
+  pub accepted-put-holds : ((m : ℕ) → got id true table store ≡ got′.Poisoned m → ⊥) → put .answer .refusal ≡ 0 →
+      Suits (typeOf id (put .table) (put .store))
+  unfolding outcome
+  accepted-put-holds clean r = by-way (wayOf operation.PutType id offered table store) refl r
+    where
+      by-way : (w : Way) → wayOf operation.PutType id offered table store ≡ w →
+          let o = outcomeBy w operation.PutType id authority place mark offered table store in o .answer .refusal ≡ 0 → Suits (typeOf id (o .table) (o .store))
+      by-way (way.Refused n p) e r =
+          absurd (false≢true (sym (ap (λ (m : ℕ). not (eqb m 0)) r) ∙ (ap numbered (sym e) ∙ way-numbered operation.PutType id offered table store)))
+      by-way (way.Found k) e r = found-suits k e clean r
+      by-way (way.Free k) e r =
+          let o = outcomeBy (way.Free k) operation.PutType id authority place mark offered table store in
+          let h = way-finds operation.PutType id authority place mark offered table store (way.Free k) e tt r (λ q. omega (arith, q)) in
+          subst Suits (sym (held operation.PutType id authority place mark offered table store o h)) (rw (identical-reflexive (layers offered)))

@@ -1,18 +1,16 @@
 -- From the core, which sees a table's columns, to the table.
 -- Assumes nothing.
-use mathlib.Core.Path.{_≡_, refl, sym, ap, subst, _∙_}
-use mathlib.Core.Bool.{Bool, true, false, not}
+use mathlib.Core.Path.{_≡_, refl, ap, subst, _∙_}
+use mathlib.Core.Bool.{Bool, not}
 use mathlib.Core.List.{List}
-use Prim.Native.Nat.{ℕ, _*_, _≤_, _<_}
+use Prim.Native.Nat.{ℕ, _<_}
 use native.Mathlib.Omega.{arith}
 use lib.Dec.{T, leb, leb→le, nleb→lt}
-use lib.ListN.{length, getD, set, drop}
-use borrow.Author.Tests.{lt-leb, not-true}
+use lib.ListN.{length, set}
 use Rattle.layers.specs.Answer as paper
 use Rattle.layers.specs.Answer.{given, nothing, refused}
 use Rattle.tables.specs.declared.symbol.Symbol.{Symbol}
 use Rattle.tables.specs.Rows.{readFrom, gathered}
-use Rattle.tables.specs.Order.{inOrder}
 use Rattle.tables.proofs.Columns.{swapped}
 use Rattle.tables.proofs.Ordered.{too-long}
 use Rattle.answers.specs.Flat.{notAccepted}

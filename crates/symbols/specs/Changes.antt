@@ -1,7 +1,7 @@
 -- Put, poison and forward declaration: what each does to a table and its store.
-use mathlib.Core.Bool.{Bool, true, false, cond}
+use mathlib.Core.Bool.{Bool, cond}
 use mathlib.Core.List.{List, _++_}
-use Prim.Native.Nat.{ℕ, _+_, _*_}
+use Prim.Native.Nat.{ℕ, _*_}
 use lib.Dec.{ltb}
 use lib.ListN.{length, take, drop, getD, set}
 use Rattle.layers.specs.Answer as paper
@@ -117,14 +117,15 @@ seen d = record { symbol = d .symbol; answer = d .answer }
 abbrev pub nowhere : ℕ → Answer → Change
 nowhere n a = record { slot = n; symbol = vacant; answer = a }
 
+abbrev pub inSlot : ℕ → Updated → Change
+inSlot k u = record { slot = k; symbol = u .symbol; answer = u .answer }
+
 abbrev pub changeBy : Way → Operation → ℕ → Bool → ℕ → ℕ → List ℕ → List Symbol → List ℕ → Change
 changeBy (way.Refused n p) op id authority place mark offered table store = nowhere (length table) (notAccepted n p)
 changeBy (way.Found k) op id authority place mark offered table store =
-    let d = overwrites op (getD table k vacant) (drop (k * 48) store) id authority place mark offered in
-    record { slot = k; symbol = d .symbol; answer = d .answer }
+    inSlot k (seen (overwrites op (getD table k vacant) (drop (k * 48) store) id authority place mark offered))
 changeBy (way.Free k) op id authority place mark offered table store =
-    let d = inserts op (drop (k * 48) store) id authority place mark offered in
-    record { slot = k; symbol = d .symbol; answer = d .answer }
+    inSlot k (seen (inserts op (drop (k * 48) store) id authority place mark offered))
 
 unfoldable pub changeOf : Operation → ℕ → Bool → ℕ → ℕ → List ℕ → List Symbol → List ℕ → Change
 changeOf op id authority place mark offered table store =

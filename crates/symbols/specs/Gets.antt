@@ -2,7 +2,7 @@
 use mathlib.Core.Bool.{Bool, true, cond}
 use mathlib.Core.List.{List, []}
 use Prim.Native.Nat.{ℕ, _*_, _/_}
-use lib.Dec.{eqb, leb, ltb}
+use lib.Dec.{leb, ltb}
 use lib.ListN.{length, take, drop, getD}
 use Rattle.tables.specs.declared.symbol.Symbol.{Symbol}
 use Rattle.tables.specs.Rows.{vacant}

@@ -8,6 +8,7 @@ use answers::refused;
 use tables::Symbol;
 use tables::gather;
 use tables::row;
+use updates::Updated;
 ghost use mathlib.Core.Path.{_≡_};
 ghost use Rattle.tables.specs.Rows.{readFrom};
 ghost use Rattle.symbols.specs.Changes as rules;
@@ -33,6 +34,18 @@ fn nowhere(n: usize, answer: Answer) -> Change
     Change {
         slot: n,
         symbol: s,
+        answer,
+    }
+}
+
+fn in_slot(slot: usize, u: Updated) -> Change
+    ensures { λ r. ⌜ r ≡ rules.inSlot slot u ⌝ }
+{
+    let symbol = u.symbol;
+    let answer = u.answer;
+    Change {
+        slot,
+        symbol,
         answer,
     }
 }
@@ -67,13 +80,7 @@ pub(crate) fn choose(
                 mark,
                 offered,
             );
-            let symbol = u.symbol;
-            let answer = u.answer;
-            Change {
-                slot: at,
-                symbol,
-                answer,
-            }
+            in_slot(at, u)
         }
         Way::Free(at) => {
             let from = at * 48;
@@ -86,13 +93,7 @@ pub(crate) fn choose(
                 mark,
                 offered,
             );
-            let symbol = u.symbol;
-            let answer = u.answer;
-            Change {
-                slot: at,
-                symbol,
-                answer,
-            }
+            in_slot(at, u)
         }
     }
 }

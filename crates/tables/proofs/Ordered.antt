@@ -1,14 +1,14 @@
 -- What is known of a table that is in order, sentence by sentence; and that these sentences make it so.
 -- Assumes nothing.
-use mathlib.Core.Path.{_≡_, refl}
-use mathlib.Core.Bool.{Bool, true, false, not, _&&_, and-true, false≢true}
+use mathlib.Core.Path.{_≡_}
+use mathlib.Core.Bool.{true, false, not, _&&_}
 use mathlib.Core.List.{List}
 use Prim.Native.Nat.{ℕ, _*_, _≤_, _<_}
 use lib.Dec.{leb, eqb}
 use lib.ListN.{length}
 use borrow.Author.Tests.{lt-leb, leb-true, eqb-true, le-leb, eq-eqb, not-true}
-use Rattle.tables.specs.Order.{knownStates, takenFirst, taken, repeats, allPass, inOrder, slotFor, firstFree, slotIn, freeIn}
-use Rattle.tables.specs.Rows.{readFrom}
+use Rattle.layers.proofs.Decide.{both}
+use Rattle.tables.specs.Order.{knownStates, takenFirst, taken, repeats, allPass, inOrder}
 use Rattle.tables.specs.declared.symbol.Symbol.{Symbol}
 
 pub record Ordered (table : List Symbol) (store : List ℕ) : Type 0 where
@@ -18,11 +18,6 @@ pub record Ordered (table : List Symbol) (store : List ℕ) : Type 0 where
   pub ids : repeats (taken table) ≡ false
   pub pass : allPass table store ≡ true
   pub full : length store ≡ length table * 48
-
-split : (a b : Bool) → (a && b) ≡ true → (a ≡ true) × (b ≡ true)
-split true true e = (refl, refl)
-split true false e = absurd (false≢true e)
-split false b e = absurd (false≢true e)
 
 module _ (table : List Symbol) (store : List ℕ) where
   pub ordered : inOrder table store ≡ true → Ordered table store
@@ -34,11 +29,11 @@ module _ (table : List Symbol) (store : List ℕ) where
       let d = not (repeats (taken table)) in
       let f = allPass table store in
       let g = eqb (length store) (length table * 48) in
-      let e5 = split (a && b && c && d && f) g e in
-      let e4 = split (a && b && c && d) f (e5 .0) in
-      let e3 = split (a && b && c) d (e4 .0) in
-      let e2 = split (a && b) c (e3 .0) in
-      let e1 = split a b (e2 .0) in
+      let e5 = both (a && b && c && d && f) g e in
+      let e4 = both (a && b && c && d) f (e5 .0) in
+      let e3 = both (a && b && c) d (e4 .0) in
+      let e2 = both (a && b) c (e3 .0) in
+      let e1 = both a b (e2 .0) in
       record {
         few = leb-true (length table) 128 (e1 .0);
         states = e1 .1;

@@ -7,8 +7,8 @@ use mathlib.Core.Logic.{_≢_}
 use Prim.Native.Nat.{ℕ, zero, suc, _+_, _-_, _*_, _≤_, _<_}
 use native.Mathlib.Nat.{not-suc-le-zero}
 use native.Mathlib.Omega.{arith}
-use lib.Dec.{eqb, leb, ltb}
-use lib.ListN.{length, take, drop, getD, set, length-drop, length-take}
+use lib.Dec.{eqb, leb}
+use lib.ListN.{length, take, drop, getD, set, length-drop}
 use lib.Seq.{take-append-le, drop-append-le, take-take, drop-drop, take-add, drop-at, drop-append-add, length-take-le}
 use borrow.Author.Tests.{leb-true, eqb-false, eq-eqb, ne-eqb}
 use Rattle.tables.specs.declared.symbol.Symbol.{Symbol}

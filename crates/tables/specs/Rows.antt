@@ -1,5 +1,5 @@
 -- A table's records in six columns of 128 words: record i's words stand at i, i + 128, .., i + 640.
-use mathlib.Core.Bool.{Bool, true, false, cond}
+use mathlib.Core.Bool.{Bool, false, cond}
 use mathlib.Core.List.{List, [], _∷_}
 use Prim.Native.Nat.{ℕ, zero, suc, _+_}
 use lib.Dec.{eqb, ltb}

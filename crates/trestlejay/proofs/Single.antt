@@ -60,6 +60,8 @@ use Rattle.trestlejay.proofs.records.tj_put_poison as tj-put-poison
 use Rattle.trestlejay.proofs.records.tj_forward_declare_type as tj-forward-declare-type
 use Rattle.trestlejay.proofs.records.tj_forward_declare_poison as tj-forward-declare-poison
 use Rattle.trestlejay.proofs.records.tj_get_symbol as tj-get-symbol
+use Rattle.trestlejay.proofs.plans.tj_autoderef as tj-autoderef
+use Rattle.trestlejay.proofs.plans.tj_walk as tj-walk
 
 abbrev SingleOfType : Out 1 of-type.ps of-type.r → Type 0
 SingleOfType Q = Single 1 of-type.ps of-type.r Q
@@ -206,3 +208,11 @@ module _ {M : Type 1} (𝓤 : URA M) (H : Heap 𝓤) (A : Atoms 𝓤) (mem : Mem
   pub tj-get-symbol-single : (κs : Lfts 3) (a : Args tj-get-symbol.signature κs) → Walked 𝓤 (tj-get-symbol.clauses 𝓤 H A mem run κs a .ensures tt)
       (λ x s y t. (x ≡ y) × (now (s .1 .1 .1 .1 .0) ≡ now (t .1 .1 .1 .1 .0)))
   tj-get-symbol-single κs a = (_, (λ x s. refl, λ x y s t p q. (p .0 ∙ sym (q .0), p .1 ∙ sym (q .1))))
+
+  pub tj-autoderef-single : (κs : Lfts 5) (a : Args tj-autoderef.signature κs) → Walked 𝓤 (tj-autoderef.clauses 𝓤 H A mem run κs a .ensures tt)
+      (λ x s y t. (x ≡ y) × (now (s .1 .1 .1 .1 .1 .1 .1 .0) ≡ now (t .1 .1 .1 .1 .1 .1 .1 .0)) × (now (s .1 .1 .1 .1 .1 .1 .1 .1 .0) ≡ now (t .1 .1 .1 .1 .1 .1 .1 .1 .0)))
+  tj-autoderef-single κs a = (_, (λ x s. refl, λ x y s t p q. (p .0 ∙ sym (q .0), p .1 ∙ sym (q .1), p .2 ∙ sym (q .2))))
+
+  pub tj-walk-single : (κs : Lfts 4) (a : Args tj-walk.signature κs) → Walked 𝓤 (tj-walk.clauses 𝓤 H A mem run κs a .ensures tt)
+      (λ x s y t. (x ≡ y) × (now (s .1 .1 .1 .1 .1 .0) ≡ now (t .1 .1 .1 .1 .1 .0)))
+  tj-walk-single κs a = (_, (λ x s. refl, λ x y s t p q. (p .0 ∙ sym (q .0), p .1 ∙ sym (q .1))))

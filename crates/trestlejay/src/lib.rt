@@ -2,6 +2,7 @@
 mod fixing;
 mod measures;
 mod pairs;
+mod plans;
 mod properties;
 mod records;
 mod starts;
@@ -23,6 +24,9 @@ pub use pairs::tj_can_subautoderef_into;
 pub use pairs::tj_equals;
 pub use pairs::tj_identical;
 pub use pairs::tj_is_like;
+pub use planner::Report;
+pub use plans::tj_autoderef;
+pub use plans::tj_walk;
 pub use properties::tj_check;
 pub use properties::tj_is_bitfield;
 pub use properties::tj_is_integral;

@@ -15,7 +15,7 @@ use Rattle.layers.specs.Answer.{given, refused}
 use Rattle.layers.proofs.Words.{inner-layers}
 use Rattle.layers.proofs.Spelling.{spelled-length, spelled-layers}
 use Rattle.buffers.specs.Written.{written}
-use Rattle.buffers.proofs.Writing.{fits, too-short, both, length-written}
+use Rattle.buffers.proofs.Writing.{fits, too-short, front-first, length-written}
 use Rattle.answers.specs.Flat.{accepted, notAccepted, flat}
 use Rattle.answers.specs.declared.flat.Answer.{Answer}
 use Rattle.walker.specs.Moves.{seen, Whole, Current}
@@ -127,7 +127,7 @@ module _ (ws out : List ℕ) (b : Bool) (c : Current ws b) where
         let long : length (spelled pointed) ≤ length out = rw n f in
         let all : 3 + length (spelled (seen ws b)) ≤ length out = omega (arith, seen-length ws b c) in
         rw (by-address h, le-ltb (length out) (length (spelled pointed)) long)
-        (q ∙ ap accepted (sym n), rw (g, e) (both (23 ∷ 0 ∷ 0 ∷ []) (spelled (seen ws b)) out all))
+        (q ∙ ap accepted (sym n), rw (g, e) (front-first (23 ∷ 0 ∷ 0 ∷ []) (spelled (seen ws b)) out 3 refl all))
 
 -- with the flag
 module _ (ws out : List ℕ) (b address : Bool) (r : Answer) (out′ : List ℕ) where

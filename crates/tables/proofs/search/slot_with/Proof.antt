@@ -1,4 +1,3 @@
-use mathlib.Core.Path.{_≡_}
 use Prim.Native.Nat.{_≤_, _-_}
 use borrow.Author.Needs.{needs}
 use Rattle.tables.proofs.Sentences.{SlotPassed, slot-many, slot-start, slot-found, slot-on, slot-over}
