@@ -5,7 +5,7 @@ use crate::face::{Raw, GUARD, KEPT};
 use crate::symbols::{Asked, Operation, Symbol, Told};
 
 extern "C" {
-    fn tj_update_symbol(
+    pub fn tj_update_symbol(
         symbol: *mut Symbol,
         words: *mut u64,
         nwords: usize,
@@ -15,7 +15,7 @@ extern "C" {
         offered: *const u64,
         n: usize,
     ) -> Raw;
-    fn tj_put_nothing(
+    pub fn tj_put_nothing(
         table: *const Symbol,
         nt: usize,
         store: *const u64,
@@ -24,7 +24,7 @@ extern "C" {
         authority: bool,
         place: u64,
     ) -> Raw;
-    fn tj_get_symbol(
+    pub fn tj_get_symbol(
         table: *const Symbol,
         nt: usize,
         store: *const u64,
@@ -33,7 +33,7 @@ extern "C" {
         authority: bool,
         found: *mut u64,
     ) -> Raw;
-    fn tj_put_type(
+    pub fn tj_put_type(
         table: *mut Symbol,
         nt: usize,
         store: *mut u64,
@@ -44,7 +44,7 @@ extern "C" {
         offered: *const u64,
         n: usize,
     ) -> Raw;
-    fn tj_forward_declare_type(
+    pub fn tj_forward_declare_type(
         table: *mut Symbol,
         nt: usize,
         store: *mut u64,
@@ -55,7 +55,7 @@ extern "C" {
         offered: *const u64,
         n: usize,
     ) -> Raw;
-    fn tj_put_poison(
+    pub fn tj_put_poison(
         table: *mut Symbol,
         nt: usize,
         store: *mut u64,
@@ -65,7 +65,7 @@ extern "C" {
         place: u64,
         mark: u64,
     ) -> Raw;
-    fn tj_forward_declare_poison(
+    pub fn tj_forward_declare_poison(
         table: *mut Symbol,
         nt: usize,
         store: *mut u64,
