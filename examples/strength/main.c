@@ -11,6 +11,7 @@ enum { MOST_EXPORTS = 64 };
 static export exports[MOST_EXPORTS];
 static size_t export_count;
 static uint64_t told[MOST_EXPORTS][REFUSALS];
+static uint64_t refused_paddings;
 
 static void gather(const export *some, size_t count)
 {
@@ -20,12 +21,14 @@ static void gather(const export *some, size_t count)
 
 static bool call(size_t which)
 {
-    uint64_t refusal = 0;
+    uint64_t refusal = 0, before = paddings;
     open_lending();
     bool good = exports[which].run(exports[which].which, &refusal);
+    good = close_lending() && good;
     if (refusal < REFUSALS)
         told[which][refusal]++;
-    return close_lending() && good;
+    refused_paddings += refusal != 0 && paddings > before;
+    return good;
 }
 
 static uint64_t run(uint64_t calls, uint64_t first)
@@ -73,7 +76,9 @@ int main(int argc, char **argv)
     report();
     printf("%zu exports\n", export_count);
     if (!only_malloc)
-        printf("after %" PRIu64 " calls a record whose fields are kept has other bytes between them\n", paddings);
+        printf("after %" PRIu64 " calls, %" PRIu64 " of them refused, a record whose fields are kept has other "
+               "bytes between them\n",
+               paddings, refused_paddings);
     printf("%" PRIu64 " passed, %" PRIu64 " failed\n", calls - failed, failed);
     return failed > 0;
 }

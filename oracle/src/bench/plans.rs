@@ -82,7 +82,6 @@ fn few_layers(random: &mut Random) -> Vec<Layer> {
 
 struct Question {
     known: Type,
-    asked: Vec<Step>,
     words: Vec<u64>,
     target: Type,
     depth: u8,
@@ -90,36 +89,34 @@ struct Question {
 }
 
 impl Question {
-    /// One whose asked steps are all taken, or, at its end, an address of a temporary address. What the
-    /// original panics at is left out.
+    /// One whose asked steps are all taken, or that ends with an address of a temporary address. What
+    /// the original panics at is left out.
     fn new(random: &mut Random, held: &Held, steps: usize, refused: bool) -> Self {
         loop {
-            let (known, asked, end) = walk(random, held, steps);
-            let target = target(random, &end);
-            let made = Question {
-                known: Type::new(&known),
-                words: asked.concat(),
-                target: Type::new(&target),
-                depth: random.pick(&[0, 0, 0, 1, 1, 2]),
-                reference: timed::reference(held.base, &asked, 0),
-                asked,
-            };
-            if asked_steps(&made) != steps || !decode(&target).is_wellformed() {
-                continue;
-            }
+            let made = Question::any(random, held, steps);
             let judged = judge_plan(&made.put(held));
-            let is_wanted = match (&judged, refused) {
-                (Ok(plan), false) => plan.taken as usize == steps,
-                (Err((9, 0)), true) => true,
-                _ => false,
+            let number = match &judged {
+                Ok(plan) if plan.taken as usize == steps => 0,
+                Ok(_) => continue,
+                Err((number, _)) => *number,
             };
-            if is_wanted {
-                let number = judged.map_or_else(|refusal| refusal.0, |_| 0);
-                let mut lent = ([0; 576], [0; PART]);
-                assert!(made.ours(held, &mut lent).refusal == number, "a plan");
-                let reference = timed::reference(held.base, &made.asked, made.depth);
-                return Question { reference, ..made };
+            if number == if refused { 9 } else { 0 } {
+                let own = made.ours(held, &mut ([0; 576], [0; PART]));
+                assert!(own.refusal == number, "a plan");
+                return made;
             }
+        }
+    }
+
+    fn any(random: &mut Random, held: &Held, steps: usize) -> Self {
+        let (known, asked, end) = walk(random, held, steps);
+        let depth = random.pick(&[0, 0, 0, 1, 1, 2]);
+        Question {
+            known: Type::new(&known),
+            words: asked.concat(),
+            target: Type::new(&target(random, &end)),
+            depth,
+            reference: timed::reference(held.base, &asked, depth),
         }
     }
 
@@ -166,10 +163,6 @@ impl Question {
     }
 }
 
-fn asked_steps(made: &Question) -> usize {
-    made.asked.len()
-}
-
 /// A known type, as many fitting steps as can be, and the type where they end.
 fn walk(random: &mut Random, held: &Held, steps: usize) -> (Vec<Layer>, Vec<Step>, Vec<Layer>) {
     let known = few_layers(random);
@@ -207,30 +200,6 @@ fn row<'a>(
     let yes = all.iter().filter(given).count();
     let mut table = Table::new(&held.records);
     set_rounds(ROUNDS as usize);
-    let mut original = move || -> (Spent, Vec<Expression>) {
-        let mut made = Vec::new();
-        let mut ready = all
-            .iter()
-            .map(Question::ready)
-            .collect::<Vec<_>>()
-            .into_iter();
-        let spent = kept(all.len(), |told| {
-            if sort == Sort::Cloned {
-                for one in all {
-                    let (reference, known, target) = one.ready();
-                    told.push(timed::plan(reference, known, target, &mut table));
-                }
-            } else {
-                for (reference, known, target) in ready.by_ref() {
-                    told.push(timed::plan(reference, known, target, &mut table));
-                }
-            }
-            if sort == Sort::Less {
-                made = std::mem::take(told);
-            }
-        });
-        (spent, made)
-    };
     Row {
         what,
         yes: (yes, all.len()),
@@ -242,18 +211,45 @@ fn row<'a>(
                 }
             })
         }),
-        original: renewed(move || {
-            let (mut spent, made) = original();
-            let made: Vec<_> = made.into_iter().filter_map(plan_of).collect();
-            let ending = kept(made.len(), |told| {
-                for (reported, steps, address) in &made {
-                    told.push(timed::ending(reported, steps, *address));
-                }
-            });
-            spent.time = spent.time.saturating_sub(ending.time);
-            spent
-        }),
+        original: renewed(move || original(all, &mut table, sort)),
     }
+}
+
+fn original(all: &[Question], table: &mut Table, sort: Sort) -> Spent {
+    if sort == Sort::Cloned {
+        return kept(all.len(), |told| {
+            for one in all {
+                let (reference, known, target) = one.ready();
+                told.push(timed::plan(reference, known, target, table));
+            }
+        });
+    }
+    let mut ready = all
+        .iter()
+        .map(Question::ready)
+        .collect::<Vec<_>>()
+        .into_iter();
+    let mut made = Vec::new();
+    let mut spent = kept(all.len(), |told| {
+        for (reference, known, target) in ready.by_ref() {
+            told.push(timed::plan(reference, known, target, table));
+        }
+        std::mem::swap(told, &mut made);
+    });
+    if sort == Sort::Less {
+        spent.time = spent.time.saturating_sub(ending(made).time);
+    }
+    spent
+}
+
+/// What the original does after these plans are made.
+fn ending(made: Vec<Expression>) -> Spent {
+    let made: Vec<_> = made.into_iter().filter_map(plan_of).collect();
+    kept(made.len(), |told| {
+        for (reported, steps, address) in &made {
+            told.push(timed::ending(reported, steps, *address));
+        }
+    })
 }
 
 /// The reported type, the steps and the address of a plan that was given.
