@@ -99,6 +99,43 @@ fn quartiles(mut all: Vec<f64>) -> [f64; 3] {
     [1, 2, 3].map(|quarter| all[(all.len() - 1) * quarter / 4])
 }
 
+#[repr(C)]
+struct Timespec {
+    seconds: i64,
+    nanos: i64,
+}
+
+extern "C" {
+    fn clock_gettime(clock: i32, time: *mut Timespec) -> i32;
+}
+
+/// What this thread has run so far, on Linux.
+fn own_time() -> Duration {
+    const CLOCK_THREAD_CPUTIME_ID: i32 = 3;
+    let mut time = Timespec {
+        seconds: 0,
+        nanos: 0,
+    };
+    // A struct of C's timespec, whose fields are both 64 bits wide on the machines that we link for.
+    let failed = unsafe { clock_gettime(CLOCK_THREAD_CPUTIME_ID, &mut time) } != 0;
+    assert!(!failed, "no clock of the thread");
+    Duration::new(time.seconds as u64, time.nanos as u32)
+}
+
+/// Runs a side until it ran through without other work in between, or has been run five times.
+fn undisturbed(side: &mut Side, times: usize) -> f64 {
+    let mut spent = Spent::default();
+    for _ in 0..5 {
+        let (start, own) = (Instant::now(), own_time());
+        spent = side(times);
+        let (all, own) = (start.elapsed(), own_time() - own);
+        if all < own + own / 20 {
+            break;
+        }
+    }
+    spent.nanos_a_call()
+}
+
 /// Each round runs both sides, ours first in every other one, and gives one ratio.
 pub fn measure(row: &mut Row, length: Length) -> Measured {
     let ours = times(&mut row.ours, length.round);
@@ -107,11 +144,11 @@ pub fn measure(row: &mut Row, length: Length) -> Measured {
     for round in 0..length.rounds {
         let (a, b);
         if round % 2 == 0 {
-            a = (row.ours)(ours).nanos_a_call();
-            b = (row.original)(original).nanos_a_call();
+            a = undisturbed(&mut row.ours, ours);
+            b = undisturbed(&mut row.original, original);
         } else {
-            b = (row.original)(original).nanos_a_call();
-            a = (row.ours)(ours).nanos_a_call();
+            b = undisturbed(&mut row.original, original);
+            a = undisturbed(&mut row.ours, ours);
         }
         all[0].push(a);
         all[1].push(b);
