@@ -16,7 +16,7 @@ use std::time::Duration;
 const ROUND: Duration = Duration::from_millis(1);
 
 const FULL: Length = Length {
-    rounds: 501,
+    rounds: 301,
     round: ROUND,
 };
 
