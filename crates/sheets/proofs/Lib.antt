@@ -1,0 +1,6 @@
+-- What follows from the definition of a sheet.
+pub mod Decoding
+pub mod Counts
+pub mod Shape
+pub mod Places
+pub mod Checking
