@@ -1,26 +1,25 @@
 -- The types of a sheet, checked one after the other.
 -- Assumes nothing.
-use mathlib.Core.Path.{_≡_, refl, sym, ap, _∙_}
+use mathlib.Core.Path.{_≡_, refl, sym, _∙_}
 use mathlib.Core.Bool.{Bool, true, false, cond}
-use mathlib.Core.List.{List, [], _∷_, _++_}
-use Prim.Native.Nat.{ℕ, suc, _+_, _*_, _/_, _%_, _≤_, _<_}
+use mathlib.Core.List.{List, [], _∷_}
+use Prim.Native.Nat.{ℕ, suc, _+_, _/_, _%_, _≤_, _<_}
 use native.Mathlib.Omega.{arith}
 use native.Mathlib.Numerals.{add-one}
 use lib.Dec.{eqb}
-use lib.ListN.{length, take, drop, getD, replicate, drop-of-length-le}
-use lib.Seq.{drop-cons, take-at, length-take-le}
-use borrow.Author.Tests.{eqb-true, eqb-false, ne-eqb, eq-eqb}
-use Rattle.layers.specs.Answer.{Answer, given, refused, next, ofChecked}
+use lib.ListN.{length, take, drop, replicate, drop-of-length-le}
+use lib.Seq.{drop-cons, length-take-le}
+use borrow.Author.Tests.{eqb-true, ne-eqb, eq-eqb}
+use Rattle.layers.specs.Answer.{Answer, given, next, ofChecked}
 use Rattle.layers.specs.Check.{checkOf}
 use Rattle.layers.specs.declared.answers.Checked.{Checked}
 use Rattle.layers.specs.declared.answers.Checked.the-variants as checked
-use Rattle.sheets.specs.Sheet.{isSheet, count, typesIn, types, typeAt, checkAll, badSheet, layerCounts, wholeWords, readWords, readSheet}
-use Rattle.sheets.proofs.Shape.{sheet-known, length-counts}
+use Rattle.sheets.specs.Sheet.{isSheet, count, typesIn, types, typeAt, checkAll, badSheet, wholeWords, readWords, readSheet}
+use Rattle.sheets.proofs.Shape.{sheet-known}
 use Rattle.buffers.specs.Written.{written}
-use Rattle.buffers.proofs.Writing.{fits, length-written}
-use Rattle.sheets.proofs.Counts.{total-few}
-use Rattle.sheets.proofs.Decoding.{length-words}
-use Rattle.sheets.proofs.Places.{how-many}
+use Rattle.buffers.proofs.Writing.{length-written}
+use Rattle.sheets.proofs.Decoding.{length-words, words-back}
+use Rattle.sheets.proofs.Places.{how-many, sheet-short}
 
 module _ (ws : List ℕ) (n : ℕ) (e : n ≡ typesIn ws) where
   pub no-sheet : n ≡ 0 → (r : Answer ℕ) → r ≡ badSheet → r ≡ readWords ws
@@ -75,10 +74,7 @@ module _ (bs : List ℕ) where
       by-test t g false k = refl
       by-test false g true k = refl
       by-test true g true k =
-          let s = sheet-known (wholeWords bs) g in
-          let n = length-counts (count (wholeWords bs)) (wholeWords bs) (omega (arith, s .whole)) in
-          let l = total-few (layerCounts (wholeWords bs)) (s .good) in
-          absurd (omega (arith, s .whole, s .few, n, l, length-words (length bs / 8) bs, eqb-true (length bs % 8) 0 k))
+          absurd (omega (arith, sheet-short (wholeWords bs) g, length-words (length bs / 8) bs, eqb-true (length bs % 8) 0 k))
 
   pub odd-bytes : (length bs % 8 ≡ 0 → ⊥) → (r : Answer ℕ) → r ≡ badSheet → r ≡ readSheet bs
   unfolding readSheet
@@ -87,10 +83,7 @@ module _ (bs : List ℕ) where
   pub as-read : length bs ≤ 12552 → length bs % 8 ≡ 0 → (z : List ℕ) → z ≡ written (wholeWords bs) (replicate 1569 0) →
       (r : Answer ℕ) → r ≡ readWords (take (length bs / 8) z) → r ≡ readSheet bs
   unfolding readSheet
-  as-read h k z e r f =
-      let n : length (wholeWords bs) ≡ length bs / 8 = length-words (length bs / 8) bs in
-      let w : z ≡ wholeWords bs ++ drop (length (wholeWords bs)) (replicate 1569 0) = e ∙ fits (wholeWords bs) (replicate 1569 0) (rw n (omega arith)) in
-      f ∙ rw (w, take-at (wholeWords bs) (drop (length (wholeWords bs)) (replicate 1569 0)) (length bs / 8) n, eq-eqb (length bs % 8) 0 k)
+  as-read h k z e r f = f ∙ rw (words-back bs z h e, eq-eqb (length bs % 8) 0 k)
 
   pub so-many : length bs ≤ 12552 → (z : List ℕ) → z ≡ written (wholeWords bs) (replicate 1569 0) → length bs / 8 ≡ length (take (length bs / 8) z)
   so-many h z e =

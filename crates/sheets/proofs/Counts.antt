@@ -7,12 +7,12 @@ use Prim.Native.Nat.{ℕ, zero, suc, _+_, _*_, _-_, _^_, _≤_, _<_}
 use native.Mathlib.Nat.{zero-add, add-zero, add-assoc}
 use native.Mathlib.Omega.{arith}
 use native.Mathlib.Numerals.{add-one}
-use lib.Dec.{eqb, leb}
+use lib.Dec.{leb}
 use lib.ListN.{length, take, drop, getD, drop-of-length-le}
 use lib.Seq.{drop-cons}
-use borrow.Author.Tests.{not-true, not-false, leb-true}
+use borrow.Author.Tests.{leb-true}
 use Rattle.layers.proofs.Decide.{both}
-use Rattle.sheets.specs.Sheet.{upTo, goodCounts, total, isSheet, count, layerCounts}
+use Rattle.sheets.specs.Sheet.{upTo, goodCounts, total}
 
 abbrev pub measured : List ℕ → ℕ
 measured cs = cond (goodCounts cs) (total cs) 0

@@ -1,14 +1,14 @@
 -- Bytes read as words.
 -- Assumes nothing.
 use mathlib.Core.Path.{_≡_, refl, sym, _∙_}
-use mathlib.Core.List.{List, [], _∷_}
+use mathlib.Core.List.{List, [], _∷_, _++_}
 use Prim.Native.Nat.{ℕ, zero, suc, _+_, _*_, _/_, _≤_, _<_}
 use native.Mathlib.Omega.{arith}
 use native.Mathlib.Numerals.{add-one}
 use lib.ListN.{length, take, drop, getD, set, replicate}
-use lib.Seq.{drop-cons, drop-drop}
+use lib.Seq.{drop-cons, drop-drop, take-at}
 use Rattle.buffers.specs.Written.{written}
-use Rattle.buffers.proofs.Writing.{Begun, begin, go-on, all, too-short}
+use Rattle.buffers.proofs.Writing.{Begun, begin, go-on, all, too-short, fits}
 use Rattle.sheets.specs.Sheet.{little, wordsOf, wholeWords}
 
 module _ (bs : List ℕ) where
@@ -83,3 +83,11 @@ module _ (bs : List ℕ) where
 
     pub inside : length l ≡ 1569
     inside = p .same
+
+-- the words of bytes that are not too many
+pub words-back : (bs z : List ℕ) → length bs ≤ 12552 → z ≡ written (wholeWords bs) (replicate 1569 0) → take (length bs / 8) z ≡ wholeWords bs
+words-back bs z h e =
+    let n : length (wholeWords bs) ≡ length bs / 8 = length-words (length bs / 8) bs in
+    let w : z ≡ wholeWords bs ++ drop (length (wholeWords bs)) (replicate 1569 0) =
+    e ∙ fits (wholeWords bs) (replicate 1569 0) (rw n (omega arith)) in
+    rw w (take-at (wholeWords bs) (drop (length (wholeWords bs)) (replicate 1569 0)) (length bs / 8) n)

@@ -4,3 +4,5 @@ pub mod Counts
 pub mod Shape
 pub mod Places
 pub mod Checking
+pub mod Read
+pub mod Single

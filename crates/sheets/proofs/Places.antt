@@ -5,11 +5,10 @@ use mathlib.Core.Bool.{Bool, true, false, cond}
 use mathlib.Core.List.{List, [], _∷_}
 use Prim.Native.Nat.{ℕ, zero, suc, _+_, _*_, _-_, _^_, _≤_, _<_}
 use native.Mathlib.Omega.{arith}
-use native.Mathlib.Numerals.{add-one}
-use lib.ListN.{length, take, drop, getD, length-drop, List·getD-eq-default}
-use lib.Seq.{length-take-le, take-take, drop-drop, getD-take, getD-drop}
-use Rattle.sheets.specs.Sheet.{goodCounts, total, isSheet, count, layerCounts, typesIn, bodies, types, typeAt}
-use Rattle.sheets.proofs.Counts.{measured, good-front, total-front, total-positive, good-at}
+use lib.ListN.{length, take, drop, getD, List·getD-eq-default}
+use lib.Seq.{take-take, drop-drop, getD-take, getD-drop}
+use Rattle.sheets.specs.Sheet.{total, isSheet, count, layerCounts, typesIn, bodies, types, typeAt}
+use Rattle.sheets.proofs.Counts.{measured, good-front, total-front, total-positive, total-few, good-at}
 use Rattle.sheets.proofs.Shape.{countsTo, counts-to, length-counts, Sheet, sheet-known}
 
 pub length-bodies : (cs ws : List ℕ) → length (bodies cs ws) ≡ length cs
@@ -100,3 +99,10 @@ module _ (ws : List ℕ) (k n : ℕ) (e : n ≡ typesIn ws) where
           let size : 1 + n + 3 * m + 3 * getD ws (k + 1) 0 - (1 + n + 3 * m) ≡ 3 * getD (layerCounts ws) k 0 = omega (arith, own) in
           let start : 1 + n + 3 * m ≡ 1 + count ws + 3 * total (take k (layerCounts ws)) = omega (arith, number, before) in
           rw (size, start, is) (sym (body-is k (layerCounts ws) (drop (1 + count ws) ws) (rw long here) ∙ rw drop-drop))
+
+-- a sheet has at most 1569 words
+pub sheet-short : (ws : List ℕ) → isSheet ws ≡ true → length ws ≤ 1569
+sheet-short ws e =
+    let s = sheet-known ws e in
+    let n = length-counts (count ws) ws (omega (arith, s .whole)) in
+    omega (arith, s .whole, s .few, n, total-few (layerCounts ws) (s .good))

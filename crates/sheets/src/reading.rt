@@ -4,7 +4,6 @@ use crate::words::words_of;
 use layers::Checked;
 use layers::check_type;
 ghost use mathlib.Core.Path.{_≡_};
-ghost use mathlib.Core.Bool.{true};
 ghost use Rattle.layers.specs.Answer.{ofChecked};
 ghost use Rattle.sheets.specs.Sheet as sheet;
 

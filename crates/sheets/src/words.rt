@@ -3,7 +3,7 @@ ghost use mathlib.Core.List.{[], _∷_};
 ghost use Prim.Native.Nat.{_+_, _*_, _/_, _≤_};
 ghost use lib.ListN.{length, drop, replicate, take};
 ghost use Rattle.buffers.specs.Written.{written};
-ghost use Rattle.sheets.specs.Sheet.{little, wordsOf, wholeWords};
+ghost use Rattle.sheets.specs.Sheet.{little, wholeWords};
 
 // The word of eight bytes, the lowest first.
 fn word_of(a: u8, b: u8, c: u8, d: u8, e: u8, f: u8, g: u8, h: u8) -> u64
