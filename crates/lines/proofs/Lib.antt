@@ -3,3 +3,4 @@ pub mod Putting
 pub mod Texts
 pub mod Rows
 pub mod Told
+pub mod Single

@@ -25,6 +25,15 @@ at-the-start : (t l : List ℕ) → length t ≤ length l → putAt 0 t l ≡ wr
 unfolding putAt
 at-the-start t l h = rw (zero-add, fits t l h)
 
+-- a length within the text counts its first bytes
+all-told : (t l : List ℕ) (to : ℕ) (k : List ℕ) → length t ≤ length l → (to ≡ length t) × (k ≡ putAt 0 t l) →
+    ((to ≡ length t) × (to ≤ length k) × (to ≡ length (take to k))) × (k ≡ written t l)
+all-told t l to k h q =
+    let w : k ≡ written t l = q .1 ∙ at-the-start t l h in
+    let n : length k ≡ length l = rw w (length-written t l) in
+    let within : to ≤ length k = omega (arith, q .0) in
+    ((q .0, within, sym (length-take-le to k within)), w)
+
 module _ (bs : List ℕ) (r : Checked) (e : ofChecked r ≡ readSheet bs) where
   module _ (m p : ℕ) (f : r ≡ checked.Refused m p) where
     not-read : refused m p ≡ readSheet bs
@@ -38,10 +47,9 @@ module _ (bs : List ℕ) (r : Checked) (e : ofChecked r ≡ readSheet bs) where
     says = rw (sym not-read)
 
     pub refused-text : (l : List ℕ) → 18494 ≤ length l → (to : ℕ) (k : List ℕ) → (to ≡ length (refusal m)) × (k ≡ putAt 0 (refusal m) l) →
-        (to ≡ length (text bs)) × (k ≡ written (text bs) l)
+        ((to ≡ length (text bs)) × (to ≤ length k) × (to ≡ length (take to k))) × (k ≡ written (text bs) l)
     refused-text l room to k q =
-        let short : length (refusal m) ≤ length l = simp length-append (omega (arith, digits-few m)) in
-        (rw says (q .0), rw says (q .1 ∙ at-the-start (refusal m) l short))
+        rw says (all-told (refusal m) l to k (simp length-append (omega (arith, digits-few m))) q)
 
   module _ (n : ℕ) (f : r ≡ checked.Good n) (z : List ℕ) (g : z ≡ written (wholeWords bs) (replicate 1569 0)) where
     is-read : given n ≡ readSheet bs
@@ -68,8 +76,7 @@ module _ (bs : List ℕ) (r : Checked) (e : ofChecked r ≡ readSheet bs) where
 
       pub read-text : (to : ℕ) (k : List ℕ) →
           (to ≡ length (header ++ rows (types (take (length bs / 8) z)))) × (k ≡ putAt 0 (header ++ rows (types (take (length bs / 8) z))) l) →
-          (to ≡ length (text bs)) × (k ≡ written (text bs) l)
+          ((to ≡ length (text bs)) × (to ≤ length k) × (to ≡ length (take to k))) × (k ≡ written (text bs) l)
       read-text to k q =
-          let short : length (header ++ rows (types (take (length bs / 8) z))) ≤ length l =
-          simp length-append (omega (arith, all-short (take (length bs / 8) z) l n table-fits)) in
-          (rw tells (q .0), rw tells (q .1 ∙ at-the-start (header ++ rows (types (take (length bs / 8) z))) l short))
+          let lines = all-short (take (length bs / 8) z) l n table-fits in
+          rw tells (all-told (header ++ rows (types (take (length bs / 8) z))) l to k (simp length-append (omega (arith, lines))) q)

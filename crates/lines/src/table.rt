@@ -8,7 +8,7 @@ use sheets::words_of;
 ghost use mathlib.Core.Path.{_≡_};
 ghost use mathlib.Core.List.{_++_};
 ghost use Prim.Native.Nat.{_+_, _*_, _≤_, _<_};
-ghost use lib.ListN.{length};
+ghost use lib.ListN.{length, take};
 ghost use Rattle.buffers.specs.Written.{written};
 ghost use Rattle.sheets.specs.Sheet.{types, typeAt};
 ghost use Rattle.lines.specs.Put.{putAt};
@@ -72,7 +72,7 @@ fn put_table(out: &mut [u8], words: &[u64], n: usize) -> usize
 
 // Puts what `pairs` prints of the bytes that it read into a lent text, from its first byte on; and how long it is.
 pub fn pairs_text(bytes: &[u8], out: &mut [u8; 18494]) -> usize
-    ensures length { λ r. ⌜ r ≡ length (text.text (now (bytes .entry))) ⌝ }
+    ensures length { λ r. ⌜ (r ≡ length (text.text (now (bytes .entry)))) × (r ≤ length (now (out .exit))) × (r ≡ length (take r (now (out .exit)))) ⌝ }
     ensures text { λ _. ⌜ now (out .exit) ≡ written (text.text (now (bytes .entry))) (now (out .entry)) ⌝ }
 {
     match read_sheet(bytes) {
