@@ -149,6 +149,30 @@ fn noise(random: &mut Random) -> Vec<u8> {
     bytes(&all)
 }
 
+/// Every count of types and of layers, good ones and those next to them, each with all the bytes that
+/// belong to it.
+pub fn each_count() -> Vec<Vec<u8>> {
+    let short = vec![[11, 0, 0]];
+    let mut all: Vec<Vec<u8>> = (0..=34)
+        .map(|count| Sheet::new(&vec![short.clone(); count]).bytes())
+        .collect();
+    for layers in 0..=18 {
+        let mut chain = vec![[14, 0, 2]; layers];
+        if let Some(last) = chain.last_mut() {
+            *last = [11, 0, 0];
+        }
+        all.push(Sheet::new(&[short.clone(), chain, short.clone()]).bytes());
+    }
+    all
+}
+
+/// A sheet cut or made longer with zeros.
+fn resized(sheet: &[u8], length: usize) -> Vec<u8> {
+    let mut bytes = sheet.to_vec();
+    bytes.resize(length, 0);
+    bytes
+}
+
 /// Every prefix of a small sheet and every length a little above; each of its words with each odd
 /// number; the longest sheet and the lengths around it.
 pub fn each_edge() -> Vec<Vec<u8>> {
@@ -157,13 +181,13 @@ pub fn each_edge() -> Vec<Vec<u8>> {
         vec![[23, 0, 0], [15, 7, 0], [20, 7, 0]],
     ])
     .bytes();
-    let mut all: Vec<Vec<u8>> = (0..small.len() + 40)
-        .map(|length| {
-            let mut bytes = small.clone();
-            bytes.resize(length, 0);
-            bytes
-        })
-        .collect();
+    let mut longest = vec![[14, 0, 2]; 16];
+    longest[15] = [11, 0, 0];
+    let full = Sheet::new(&vec![longest; 32]).bytes();
+
+    let mut all = each_count();
+    all.extend((0..small.len() + 40).map(|length| resized(&small, length)));
+    all.extend((full.len() - 20..full.len() + 60).map(|length| resized(&full, length)));
     for at in (0..small.len()).step_by(8) {
         for odd in (0..40).chain(COUNTS) {
             let mut bytes = small.clone();
@@ -171,15 +195,5 @@ pub fn each_edge() -> Vec<Vec<u8>> {
             all.push(bytes);
         }
     }
-    let mut longest = vec![[14, 0, 2]; 16];
-    longest[15] = [11, 0, 0];
-    let full = Sheet::new(&vec![longest; 32]).bytes();
-    for length in full.len() - 20..full.len() + 60 {
-        let mut bytes = full.clone();
-        bytes.resize(length, 0);
-        all.push(bytes);
-    }
-    // 33 types, with everything that belongs to them.
-    all.push(Sheet::new(&vec![vec![[11, 0, 0]]; 33]).bytes());
     all
 }

@@ -6,7 +6,7 @@ use std::io::Write;
 use std::process::{Command, Stdio};
 use std::thread;
 
-use crate::damage::{any_sheet, each_edge};
+use crate::damage::{any_sheet, each_count, each_edge};
 use crate::face::Raw;
 use crate::random::Random;
 use crate::records::Row;
@@ -22,7 +22,7 @@ const GUARD: u8 = 0xa5;
 /// The program, by its runner at the top of the repository.
 const RUN: &str = concat!(env!("CARGO_MANIFEST_DIR"), "/../run");
 
-/// How many sheets the program is asked about. Where it has to be emulated it takes longer to start.
+/// How many random sheets the program is asked about. Where it is emulated it takes longer to start.
 const RUNS: u64 = if cfg!(target_arch = "x86_64") {
     2_000
 } else {
@@ -127,11 +127,12 @@ fn printed(bytes: &[u8]) -> Result<Vec<u8>, String> {
     }
 }
 
-/// Runs the program on random sheets, on every processor.
+/// Runs the program on sheets of every count and on random ones, on every processor.
 fn run_all(scale: u64, random: &mut Random) -> Sheets {
-    let sheets: Vec<Vec<u8>> = (0..scale * RUNS).map(|_| any_sheet(random)).collect();
+    let mut sheets = each_count();
+    sheets.extend((0..scale * RUNS).map(|_| any_sheet(random)));
     let at_once = thread::available_parallelism().map_or(1, |n| n.get());
-    let part = sheets.len().div_ceil(at_once).max(1);
+    let part = sheets.len().div_ceil(at_once);
     let found: Vec<Result<Vec<u8>, String>> = thread::scope(|scope| {
         let runs: Vec<_> = sheets
             .chunks(part)
