@@ -9,6 +9,8 @@ mod caught;
 #[cfg(face)]
 mod compare;
 #[cfg(face)]
+mod damage;
+#[cfg(face)]
 mod disorder;
 #[cfg(face)]
 mod face;
@@ -30,6 +32,9 @@ mod random;
 mod records;
 mod script;
 #[cfg(face)]
+mod sheet_face;
+mod sheets;
+#[cfg(face)]
 mod small;
 mod smoke;
 mod symbols;
@@ -41,7 +46,7 @@ use std::io::Write;
 use std::process::exit;
 
 const USAGE: &str =
-    "oracle smoke | oracle cases | oracle script FILE | oracle answers COUNT SEED | oracle compare SCALE SEED";
+    "oracle smoke | oracle cases | oracle script FILE | oracle pairs FILE | oracle answers COUNT SEED | oracle compare SCALE SEED";
 
 fn main() {
     let words: Vec<String> = env::args().skip(1).collect();
@@ -51,6 +56,10 @@ fn main() {
         ["cases"] => write(&cases::cases()),
         ["script", file] => match std::fs::read_to_string(file) {
             Ok(text) => write(&script::script(&text)),
+            Err(error) => fail(&format!("{file}: {error}")),
+        },
+        ["pairs", file] => match std::fs::read(file) {
+            Ok(bytes) => write(&sheets::text(&bytes)),
             Err(error) => fail(&format!("{file}: {error}")),
         },
         ["answers", count, seed] => {
