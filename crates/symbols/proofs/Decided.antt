@@ -15,12 +15,13 @@ use Rattle.layers.specs.Answer as paper
 use Rattle.layers.specs.Answer.{ofChecked, given, nothing, refused}
 use Rattle.layers.specs.declared.answers.Checked.{Checked}
 use Rattle.layers.specs.declared.answers.Checked.the-variants as checked
-use Rattle.tables.specs.declared.symbol.Symbol.{Symbol}
-use Rattle.tables.specs.Rows.{vacant, readFrom, rowUnder}
-use Rattle.tables.specs.Order.{inOrder, slotFor, firstFree, slotIn, freeIn}
-use Rattle.tables.proofs.Columns.{length-read, row-found}
-use Rattle.tables.proofs.Sentences.{slot-is, free-is, slot-has}
-use Rattle.tables.proofs.Ordered.{Ordered, ordered}
+use Rattle.columns.specs.declared.symbol.Symbol.{Symbol}
+use Rattle.columns.specs.Rows.{vacant, readFrom, rowUnder}
+use Rattle.columns.specs.Search.{slotFor, firstFree, slotIn, freeIn}
+use Rattle.orders.specs.Order.{inOrder}
+use Rattle.columns.proofs.Reading.{length-read, row-found}
+use Rattle.columns.proofs.Searching.{slot-is, free-is, slot-has}
+use Rattle.orders.proofs.Ordered.{Ordered, ordered}
 use Rattle.answers.specs.declared.flat.Answer.{Answer}
 use Rattle.answers.specs.Flat.{notAccepted}
 use Rattle.updates.specs.declared.record.Updated.{Updated}

@@ -18,8 +18,9 @@ use Rattle.layers.specs.Check.{Place, at, nowhere, badCount, badLayer, misplace
 use Rattle.layers.proofs.Checks.{start}
 use Rattle.buffers.specs.Written.{written}
 use Rattle.buffers.proofs.Writing.{fits, length-written}
-use Rattle.tables.specs.declared.symbol.Symbol.{Symbol}
-use Rattle.tables.specs.Order.{free, isGood, passes}
+use Rattle.columns.specs.declared.symbol.Symbol.{Symbol}
+use Rattle.columns.specs.Rows.{free}
+use Rattle.orders.specs.Order.{isGood, passes}
 use Rattle.answers.specs.declared.flat.Answer.{Answer}
 use Rattle.answers.specs.Flat.{accepted}
 use Rattle.updates.proofs.Cases.{by-lines}

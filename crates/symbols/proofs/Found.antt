@@ -8,12 +8,15 @@ use native.Mathlib.Omega.{arith}
 use lib.Dec.{eqb, leb}
 use lib.ListN.{length, take, drop, getD}
 use borrow.Author.Tests.{lt-leb, le-leb, leb-false, lt-ltb, le-ltb, eq-eqb, ne-eqb, not-true, not-false}
-use Rattle.tables.specs.declared.symbol.Symbol.{Symbol}
-use Rattle.tables.specs.Rows.{vacant, readFrom, gathered, rowUnder}
-use Rattle.tables.specs.Order.{inOrder, slotFor, slotIn}
-use Rattle.tables.proofs.Columns.{length-read, row-found, swapped}
-use Rattle.tables.proofs.Sentences.{slot-has}
-use Rattle.tables.proofs.Ordered.{ordered, too-long}
+use Rattle.columns.specs.declared.symbol.Symbol.{Symbol}
+use Rattle.columns.specs.Rows.{vacant, readFrom, rowUnder}
+use Rattle.tables.specs.Gathered.{gathered}
+use Rattle.columns.specs.Search.{slotFor, slotIn}
+use Rattle.orders.specs.Order.{inOrder}
+use Rattle.columns.proofs.Reading.{length-read, row-found}
+use Rattle.tables.proofs.Gathering.{swapped}
+use Rattle.columns.proofs.Searching.{slot-has}
+use Rattle.orders.proofs.Ordered.{ordered, too-long}
 use Rattle.answers.specs.declared.flat.Answer.{Answer}
 use Rattle.answers.specs.Flat.{accepted, notAccepted}
 use Rattle.symbols.specs.Gets.{markFor, got, told, foundAfter, storedType, nothingPut, typeIn, typeOf}

@@ -14,7 +14,7 @@ use denote.Ref.{now}
 use denote.Triple.Clauses.{AtExit}
 use denote.Triple.Entry.{Args}
 use borrow.Fn.Kinds.{Dens, resT, endedOf}
-use Rattle.tables.proofs.Single.{Walked}
+use Rattle.columns.proofs.Single.{Walked}
 use Rattle.symbols.proofs.get.stored_type.Kinds as stored-type-kinds
 use Rattle.symbols.proofs.get.stored_type.Reads as stored-type
 use Rattle.symbols.proofs.change.change_symbol as change-symbol

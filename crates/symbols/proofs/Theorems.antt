@@ -18,12 +18,13 @@ use Rattle.layers.specs.Check.{Place, at, nowhere, badCount, badLayer, misplace
 use Rattle.relations.specs.Relations.{identical, concretization}
 use Rattle.relations.proofs.Theorems.{identical-reflexive}
 use Rattle.buffers.specs.Written.{written}
-use Rattle.tables.specs.declared.symbol.Symbol.{Symbol}
-use Rattle.tables.specs.Rows.{vacant}
-use Rattle.tables.specs.Order.{free, passes, inOrder, takenFirst, taken, hasId, repeats, slotFor, firstFree}
-use Rattle.tables.proofs.Sentences.{slot-has}
-use Rattle.tables.proofs.Ordered.{Ordered, ordered, in-order}
-use Rattle.tables.proofs.Setting.{states-set, state-at, first-set, first-new, ids-kept, ids-new, absent-id, pass-at, pass-set, slot-taken, slot-other, slot-kept, slot-new, free-at, words-before, words-after, turned-round}
+use Rattle.columns.specs.declared.symbol.Symbol.{Symbol}
+use Rattle.columns.specs.Rows.{vacant, free}
+use Rattle.columns.specs.Search.{slotFor, firstFree}
+use Rattle.orders.specs.Order.{passes, inOrder, takenFirst, taken, hasId, repeats}
+use Rattle.columns.proofs.Searching.{slot-has}
+use Rattle.orders.proofs.Ordered.{Ordered, ordered, in-order}
+use Rattle.orders.proofs.Setting.{states-set, state-at, first-set, first-new, ids-kept, ids-new, absent-id, pass-at, pass-set, slot-taken, slot-other, slot-kept, slot-new, free-at, words-before, words-after, turned-round}
 use Rattle.answers.specs.declared.flat.Answer.{Answer}
 use Rattle.answers.specs.Flat.{accepted, notAccepted}
 use Rattle.updates.specs.Updates.{storedOf}

@@ -9,10 +9,11 @@ use lib.Dec.{T, leb, leb→le, nleb→lt}
 use lib.ListN.{length, set}
 use Rattle.layers.specs.Answer as paper
 use Rattle.layers.specs.Answer.{given, nothing, refused}
-use Rattle.tables.specs.declared.symbol.Symbol.{Symbol}
-use Rattle.tables.specs.Rows.{readFrom, gathered}
-use Rattle.tables.proofs.Columns.{swapped}
-use Rattle.tables.proofs.Ordered.{too-long}
+use Rattle.columns.specs.declared.symbol.Symbol.{Symbol}
+use Rattle.columns.specs.Rows.{readFrom}
+use Rattle.tables.specs.Gathered.{gathered}
+use Rattle.tables.proofs.Gathering.{swapped}
+use Rattle.orders.proofs.Ordered.{too-long}
 use Rattle.answers.specs.Flat.{notAccepted}
 use Rattle.symbols.specs.Changes.{offeredCheck, placeOf, unless, wayOf, nowhere, outcomeBy, outcome, changeBy, changeOf, storeOf}
 use Rattle.symbols.specs.declared.ways.Operation.{Operation}

@@ -8,9 +8,10 @@ use Rattle.layers.specs.Answer as paper
 use Rattle.layers.specs.Answer.{given, nothing, refused}
 use Rattle.layers.specs.Check.{checkOf}
 use Rattle.buffers.specs.Written.{written}
-use Rattle.tables.specs.declared.symbol.Symbol.{Symbol}
-use Rattle.tables.specs.Rows.{vacant}
-use Rattle.tables.specs.Order.{inOrder, slotFor, firstFree}
+use Rattle.columns.specs.declared.symbol.Symbol.{Symbol}
+use Rattle.columns.specs.Rows.{vacant}
+use Rattle.columns.specs.Search.{slotFor, firstFree}
+use Rattle.orders.specs.Order.{inOrder}
 use Rattle.answers.specs.declared.flat.Answer.{Answer}
 use Rattle.answers.specs.Flat.{accepted, notAccepted}
 use Rattle.updates.specs.declared.record.Updated.{Updated}

@@ -5,12 +5,12 @@ use crate::ways::Way;
 use crate::ways::way_of;
 use answers::Answer;
 use answers::refused;
-use tables::Symbol;
+use columns::Symbol;
+use columns::row;
 use tables::gather;
-use tables::row;
 use updates::Updated;
 ghost use mathlib.Core.Path.{_≡_};
-ghost use Rattle.tables.specs.Rows.{readFrom};
+ghost use Rattle.columns.specs.Rows.{readFrom};
 ghost use Rattle.symbols.specs.Changes as rules;
 
 // A slot and its new record, with the answer. Past the last slot: no record is stored.

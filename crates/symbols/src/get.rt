@@ -1,13 +1,13 @@
 use answers::Answer;
 use answers::accepted;
 use answers::refused;
-use tables::Symbol;
+use columns::Symbol;
+use columns::row;
+use columns::slot_of;
+use orders::in_order;
 use tables::gather;
-use tables::in_order;
-use tables::row;
-use tables::slot_of;
 ghost use mathlib.Core.Path.{_≡_};
-ghost use Rattle.tables.specs.Rows.{readFrom};
+ghost use Rattle.columns.specs.Rows.{readFrom};
 ghost use Rattle.symbols.specs.Gets as rules;
 
 // What stands under a name: nothing, a type in a slot, or poison with its mark.

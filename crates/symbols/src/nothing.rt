@@ -1,11 +1,11 @@
 use answers::Answer;
 use answers::accepted;
 use answers::refused;
-use tables::Symbol;
+use columns::Symbol;
+use orders::in_order;
 use tables::gather;
-use tables::in_order;
 ghost use mathlib.Core.Path.{_≡_};
-ghost use Rattle.tables.specs.Rows.{readFrom};
+ghost use Rattle.columns.specs.Rows.{readFrom};
 ghost use Rattle.symbols.specs.Gets as rules;
 
 fn check_among(flat: [u64; 768], n: usize, store: &[u64]) -> Answer

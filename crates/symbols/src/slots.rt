@@ -1,7 +1,7 @@
 use crate::ways::Operation;
 use answers::accepted;
 use buffers::write_words;
-use tables::Symbol;
+use columns::Symbol;
 use updates::Updated;
 use updates::update;
 ghost use mathlib.Core.Path.{_≡_};

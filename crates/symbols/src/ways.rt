@@ -1,11 +1,11 @@
+use columns::first_free;
+use columns::slot_of;
 use layers::Checked;
 use layers::check_type;
-use tables::first_free;
-use tables::in_order;
-use tables::slot_of;
+use orders::in_order;
 ghost use mathlib.Core.Path.{_≡_};
 ghost use Rattle.layers.specs.Answer.{ofChecked};
-ghost use Rattle.tables.specs.Rows.{readFrom};
+ghost use Rattle.columns.specs.Rows.{readFrom};
 ghost use Rattle.symbols.specs.Changes as rules;
 
 // What is put under a name.

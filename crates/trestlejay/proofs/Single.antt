@@ -9,7 +9,7 @@ use prog.Wp.{Heap}
 use ghost.Atoms.{Atoms}
 use contract.Monad.{Fun}
 use denote.Triple.Entry.{Args}
-use Rattle.tables.proofs.Single.{Walked}
+use Rattle.columns.proofs.Single.{Walked}
 use contract.Lifetimes.{Lfts}
 use denote.Ref.{now}
 use denote.Triple.Clauses.{AtExit}

@@ -1,9 +1,9 @@
 use answers::Answer;
+use columns::Symbol;
 use symbols::Operation;
 use symbols::change_symbol;
 use symbols::get_symbol;
 use symbols::put_nothing;
-use tables::Symbol;
 ghost use mathlib.Core.Path.{_≡_};
 ghost use mathlib.Core.List.{[]};
 ghost use Rattle.updates.specs.Lone as rules;

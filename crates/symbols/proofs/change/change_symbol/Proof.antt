@@ -49,11 +49,12 @@ use denote.Triple.Table.{entered, cited}
 use denote.Triple.Walked.{says, Stays, stay-slice, stay-none, stay-none-slice, gave-slice, walkOf, AllGo, goes-slice, goes-none, goes-none-slice, goes-gave-slice, Walks, ends-at, walked, walk-meets}
 use denote.Exit.{yes}
 use denote.Signature.{plain}
-use Rattle.tables.specs.declared.symbol.Symbol.{Symbol}
-use Rattle.tables.specs.Rows.{vacant, readFrom, gathered}
+use Rattle.columns.specs.declared.symbol.Symbol.{Symbol}
+use Rattle.columns.specs.Rows.{vacant, readFrom}
+use Rattle.tables.specs.Gathered.{gathered}
 use Rattle.tables.proofs.Guard.{holds, fails, by-test, guarded}
-use Rattle.tables.proofs.symbol.Symbol as R
-use Rattle.tables.proofs.symbol.Symbol.Laws as R′
+use Rattle.columns.proofs.symbol.Symbol as R
+use Rattle.columns.proofs.symbol.Symbol.Laws as R′
 use Rattle.tables.proofs.gather as gather
 use Rattle.tables.proofs.gather.Symbol as gather-def
 use Rattle.tables.proofs.gather.Symbol.{name as #gather}

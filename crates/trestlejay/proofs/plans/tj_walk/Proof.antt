@@ -27,7 +27,7 @@ use denote.Triple.Statement.{Contract, Triple}
 use denote.Triple.Spec.{Meets}
 use denote.Triple.Call.{calls-at}
 use denote.Triple.Table.{entered, cited}
-use Rattle.tables.proofs.symbol.Symbol as T
+use Rattle.columns.proofs.symbol.Symbol as T
 use Rattle.answers.proofs.flat.Answer as R
 use Rattle.answers.proofs.flat.Answer.Laws as R′
 use Rattle.walks.proofs.walk.Symbol as callee

@@ -34,7 +34,7 @@ use denote.Triple.Spec.{Back, Meets}
 use denote.Triple.Clauses.{Lasts, lasts, atExit}
 use denote.Triple.Call.{calls-at}
 use denote.Triple.Table.{entered, cited}
-use Rattle.tables.proofs.symbol.Symbol as T
+use Rattle.columns.proofs.symbol.Symbol as T
 use Rattle.answers.specs.declared.flat.Answer.{Answer}
 use Rattle.answers.proofs.flat.Answer as R
 use Rattle.answers.proofs.flat.Answer.Laws as R′

@@ -1,0 +1,5 @@
+-- What the proofs of several functions use.
+pub mod Ordered
+pub mod Onward
+pub mod Setting
+pub mod Single
