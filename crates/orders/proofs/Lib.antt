@@ -1,5 +1,4 @@
 -- What the proofs of several functions use.
 pub mod Ordered
 pub mod Onward
-pub mod Setting
 pub mod Single

@@ -21,8 +21,7 @@ use Rattle.columns.specs.Rows.{vacant}
 use Rattle.orders.specs.Order as order
 use Rattle.columns.specs.Search.{slotFor}
 use Rattle.orders.specs.Order.{isGood, passes, inOrder}
-use Rattle.orders.proofs.Ordered.{ordered}
-use Rattle.orders.proofs.Setting.{pass-at}
+use Rattle.orders.proofs.Ordered.{ordered, pass-at}
 use Rattle.steps.specs.Steps.{steps, stepWords}
 use Rattle.steps.proofs.Words.{words-length, words-back}
 use Rattle.walker.specs.Walker.{Stored, typed, absent}

@@ -1,8 +1,8 @@
 -- From the core, which sees a table's columns, to the table.
 -- Assumes nothing.
 use mathlib.Core.Path.{_≡_, refl, ap, subst, _∙_}
-use mathlib.Core.Bool.{Bool, not}
-use mathlib.Core.List.{List}
+use mathlib.Core.Bool.{Bool, true, not}
+use mathlib.Core.List.{List, []}
 use Prim.Native.Nat.{ℕ, _<_}
 use native.Mathlib.Omega.{arith}
 use lib.Dec.{T, leb, leb→le, nleb→lt}
@@ -15,12 +15,16 @@ use Rattle.tables.specs.Gathered.{gathered}
 use Rattle.tables.proofs.Gathering.{swapped}
 use Rattle.orders.proofs.Ordered.{too-long}
 use Rattle.answers.specs.Flat.{notAccepted}
-use Rattle.symbols.specs.Changes.{offeredCheck, placeOf, unless, wayOf, nowhere, outcomeBy, outcome, changeBy, changeOf, storeOf}
-use Rattle.symbols.specs.declared.ways.Operation.{Operation}
-use Rattle.symbols.specs.declared.ways.Way.{Way}
-use Rattle.symbols.specs.declared.ways.Way.the-variants as way
-use Rattle.symbols.specs.declared.change.Change.{Change}
-use Rattle.symbols.proofs.Decided.{found-in, new-in}
+use Rattle.ways.specs.Ways.{offeredCheck, placeOf, unless, wayOf}
+use Rattle.changes.specs.Changes.{nowhere, outcomeBy, outcome, changeBy, changeOf, storeOf}
+use Rattle.ways.specs.declared.operations.Operation.{Operation}
+use Rattle.ways.specs.declared.slot.Way.{Way}
+use Rattle.ways.specs.declared.slot.Way.the-variants as way
+use Rattle.changes.specs.declared.change.Change.{Change}
+use Rattle.lookups.specs.Gets.{got, typeIn, typeOf}
+use Rattle.lookups.specs.declared.get.Got.{Got}
+use Rattle.lookups.specs.declared.get.Got.the-variants as got′
+use Rattle.ways.proofs.Decided.{found-in, new-in}
 
 module _ (op : Operation) (id : ℕ) (authority : Bool) (place mark : ℕ) (offered : List ℕ) (table : List Symbol) (store : List ℕ) where
   -- a table that is too long is refused, whatever it holds
@@ -70,6 +74,7 @@ module _ (op : Operation) (id : ℕ) (authority : Bool) (place mark : ℕ) (offe
 
   answer-by : (w : Way) → by w .answer ≡ outcomeBy w op id authority place mark offered table store .answer
   answer-by (way.Refused n p) = refl
+  answer-by way.Kept = refl
   answer-by (way.Found k) = refl
   answer-by (way.Free k) = refl
 
@@ -85,6 +90,7 @@ module _ (op : Operation) (id : ℕ) (authority : Bool) (place mark : ℕ) (offe
   inside-or : (w : Way) → wayOf op id offered table store ≡ w → T (leb (length table) (by w .slot)) →
       table ≡ outcomeBy w op id authority place mark offered table store .table
   inside-or (way.Refused n p) e out = refl
+  inside-or way.Kept e out = refl
   inside-or (way.Found k) e out =
       absurd (omega (arith, leb→le (length table) k out, found-in op id offered table store k e .below))
   inside-or (way.Free k) e out =
@@ -99,6 +105,7 @@ module _ (op : Operation) (id : ℕ) (authority : Bool) (place mark : ℕ) (offe
   set-by : (w : Way) → T (not (leb (length table) (by w .slot))) →
       set table (by w .slot) (by w .symbol) ≡ outcomeBy w op id authority place mark offered table store .table
   set-by (way.Refused n p) inside = absurd (omega (arith, nleb→lt (length table) (length table) inside))
+  set-by way.Kept inside = absurd (omega (arith, nleb→lt (length table) (length table) inside))
   set-by (way.Found k) inside = refl
   set-by (way.Free k) inside = refl
 
@@ -108,3 +115,19 @@ module _ (op : Operation) (id : ℕ) (authority : Bool) (place mark : ℕ) (offe
   table-set r e inside =
       ap (λ (c : Change). set table (c .slot) (c .symbol)) e
       ∙ set-by (wayOf op id offered table store) (subst (λ (c : Change). T (not (leb (length table) (c .slot)))) e inside)
+
+-- get
+module _ (id : ℕ) (table : List Symbol) (store : List ℕ) where
+  long-got : (authority : Bool) (l : List Symbol) → length l ≡ length table → 128 < length l → got id authority l store ≡ got′.Refused 12 0
+  unfolding got
+  long-got authority l e h = rw (too-long l store h)
+
+  pub got-same : (authority : Bool) → got id authority (readFrom (gathered table) 0 (length table)) store ≡ got id authority table store
+  got-same authority = swapped table (λ l. got id authority l store) (got′.Refused 12 0) (long-got authority)
+
+  long-type : (l : List Symbol) → length l ≡ length table → 128 < length l → typeOf id l store ≡ []
+  unfolding typeOf
+  long-type l e h = ap (λ (x : Got). typeIn x l store) (long-got true l e h)
+
+  pub type-same : typeOf id (readFrom (gathered table) 0 (length table)) store ≡ typeOf id table store
+  type-same = swapped table (λ l. typeOf id l store) [] long-type

@@ -45,12 +45,12 @@ use Rattle.tables.proofs.gather as gather
 use Rattle.tables.proofs.gather.Symbol as gather-def
 use Rattle.tables.proofs.gather.Symbol.{name as #gather}
 use Rattle.tables.proofs.gather.Met as gather-thm
-use Rattle.symbols.specs.Gets.{typeOf}
-use Rattle.symbols.proofs.Found.{type-same}
-use Rattle.symbols.proofs.get.type_among as core
-use Rattle.symbols.proofs.get.type_among.Symbol as core-def
-use Rattle.symbols.proofs.get.type_among.Symbol.{name as #type-among}
-use Rattle.symbols.proofs.get.type_among.Met as core-thm
+use Rattle.lookups.specs.Gets.{typeOf}
+use Rattle.symbols.proofs.Whole.{type-same}
+use Rattle.lookups.proofs.type_among as core
+use Rattle.lookups.proofs.type_among.Symbol as core-def
+use Rattle.lookups.proofs.type_among.Symbol.{name as #type-among}
+use Rattle.lookups.proofs.type_among.Met as core-thm
 use Rattle.symbols.proofs.get.get_type.Key.{name as #get-type}
 use Rattle.symbols.proofs.get.get_type as f
 use Rattle.symbols.proofs.get.get_type.Statement as stated
@@ -224,4 +224,4 @@ get-type-spec 𝓤 H 𝓜 𝓖 𝓡 =
     (tables 𝓤 H 𝓜 𝓡 code.env .C) (tables 𝓤 H 𝓜 𝓡 code.env .Λ) #get-type code.function (code.unfolded 𝓤 H 𝓜 𝓡)
     (meets 𝓤 H (𝓖 .A) (givenOf 𝓤 H 𝓜 𝓖) (𝓜 .mem) (𝓡 .run) (tablesOf 𝓤 H 𝓜 (tables 𝓤 H 𝓜 𝓡 code.env))
     (cited 𝓤 H (Gather 𝓤 H (𝓖 .A) (𝓜 .mem) (𝓡 .run)) 𝓜 𝓡 code.env #gather gather-def.routine code.calls-tables·gather (gather-thm.met 𝓤 H 𝓜 𝓖 𝓡))
-    (cited 𝓤 H (Core 𝓤 H (𝓖 .A) (𝓜 .mem) (𝓡 .run)) 𝓜 𝓡 code.env #type-among core-def.routine code.calls-symbols·get·type-among (core-thm.met 𝓤 H 𝓜 𝓖 𝓡)))
+    (cited 𝓤 H (Core 𝓤 H (𝓖 .A) (𝓜 .mem) (𝓡 .run)) 𝓜 𝓡 code.env #type-among core-def.routine code.calls-lookups·type-among (core-thm.met 𝓤 H 𝓜 𝓖 𝓡)))
