@@ -1,10 +1,10 @@
-use crate::slots::fill;
-use crate::slots::overwrite;
 use answers::Answer;
 use answers::accepted;
 use answers::refused;
 use columns::Symbol;
 use columns::row;
+use slots::fill;
+use slots::overwrite;
 use updates::Updated;
 use ways::Operation;
 use ways::Way;

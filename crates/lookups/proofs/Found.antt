@@ -57,6 +57,14 @@ module _ (g k : Got) (e : g ≡ k) where
   pub found-by : (before after : ℕ) → after ≡ foundAfter k before → after ≡ foundAfter g before
   found-by before after q = rw e q
 
+-- the same, of what was looked up
+module _ (g k : Got) (e : g ≡ k) where
+  pub told-of : (a : Answer) → a ≡ told g → a ≡ told k
+  told-of a q = q ∙ ap told e
+
+  pub found-of : (before after : ℕ) → after ≡ foundAfter g before → after ≡ foundAfter k before
+  found-of before after q = q ∙ ap (λ (x : Got). foundAfter x before) e
+
 -- the words of a slot
 module _ (store : List ℕ) (k n : ℕ) where
   pub many-layers : 16 < n → take 0 store ≡ storedType store k n

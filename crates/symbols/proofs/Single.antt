@@ -14,6 +14,9 @@ use denote.Ref.{now}
 use denote.Triple.Entry.{Args}
 use Rattle.columns.proofs.Single.{Walked}
 use Rattle.symbols.proofs.change.change_symbol as change-symbol
+use Rattle.symbols.proofs.put.put_symbol as put-symbol
+use Rattle.symbols.proofs.put.poison_symbol as poison-symbol
+use Rattle.symbols.proofs.put.forward_declare_symbol as forward-declare-symbol
 use Rattle.symbols.proofs.get.get_symbol as get-symbol
 use Rattle.symbols.proofs.get.get_type as get-type
 
@@ -22,6 +25,24 @@ module _ {M : Type 1} (𝓤 : URA M) (H : Heap 𝓤) (A : Atoms 𝓤) (mem : Mem
       Walked 𝓤 (change-symbol.clauses 𝓤 H A mem run κs a .ensures tt)
       (λ x s y t. (x ≡ y) × (now (s .0) ≡ now (t .0)) × (now (s .1 .0) ≡ now (t .1 .0)))
   change-symbol-single κs a =
+      (_, (λ x s. refl, λ x y s t p q. (p .0 ∙ sym (q .0), p .1 ∙ sym (q .1), p .2 ∙ sym (q .2))))
+
+  pub put-symbol-single : (κs : Lfts 3) (a : Args put-symbol.signature κs) →
+      Walked 𝓤 (put-symbol.clauses 𝓤 H A mem run κs a .ensures tt)
+      (λ x s y t. (x ≡ y) × (now (s .0) ≡ now (t .0)) × (now (s .1 .0) ≡ now (t .1 .0)))
+  put-symbol-single κs a =
+      (_, (λ x s. refl, λ x y s t p q. (p .0 ∙ sym (q .0), p .1 ∙ sym (q .1), p .2 ∙ sym (q .2))))
+
+  pub poison-symbol-single : (κs : Lfts 2) (a : Args poison-symbol.signature κs) →
+      Walked 𝓤 (poison-symbol.clauses 𝓤 H A mem run κs a .ensures tt)
+      (λ x s y t. (x ≡ y) × (now (s .0) ≡ now (t .0)) × (now (s .1 .0) ≡ now (t .1 .0)))
+  poison-symbol-single κs a =
+      (_, (λ x s. refl, λ x y s t p q. (p .0 ∙ sym (q .0), p .1 ∙ sym (q .1), p .2 ∙ sym (q .2))))
+
+  pub forward-declare-symbol-single : (κs : Lfts 3) (a : Args forward-declare-symbol.signature κs) →
+      Walked 𝓤 (forward-declare-symbol.clauses 𝓤 H A mem run κs a .ensures tt)
+      (λ x s y t. (x ≡ y) × (now (s .0) ≡ now (t .0)) × (now (s .1 .0) ≡ now (t .1 .0)))
+  forward-declare-symbol-single κs a =
       (_, (λ x s. refl, λ x y s t p q. (p .0 ∙ sym (q .0), p .1 ∙ sym (q .1), p .2 ∙ sym (q .2))))
 
   pub get-symbol-single : (κs : Lfts 3) (a : Args get-symbol.signature κs) →

@@ -1,4 +1,5 @@
 -- What the proofs of several functions use.
 pub mod Guard
 pub mod Gathering
+pub mod Pass
 pub mod Single

@@ -1,4 +1,5 @@
 use borrow.Author.Needs.{needs}
+use Rattle.lookups.proofs.Found.{told-of, found-of}
 use Rattle.lookups.proofs.get.get_among.Statement.{statement}
 use Rattle.lookups.proofs.get.get_among.Tie as tie
 
@@ -8,4 +9,4 @@ get-among-spec =
     (tie.spec
     (λ c κs. search needs)
     (λ c κs. search needs)
-    (λ c. (cc, cc)))
+    (λ c. (search told-of, search found-of)))

@@ -1,7 +1,7 @@
 use borrow.Author.Needs.{needs}
-use Rattle.changes.proofs.Decided.{overwrites-by, overwrites-as, overwrites-words}
-use Rattle.changes.proofs.slots.overwrite.Statement.{statement}
-use Rattle.changes.proofs.slots.overwrite.Tie as tie
+use Rattle.slots.proofs.Doing.{overwrites-by, overwrites-as, overwrites-words}
+use Rattle.slots.proofs.writing.overwrite.Statement.{statement}
+use Rattle.slots.proofs.writing.overwrite.Tie as tie
 
 pub overwrite-spec : {M : Type 1} → statement M
 overwrite-spec =

@@ -1,7 +1,7 @@
 use borrow.Author.Needs.{needs}
-use Rattle.changes.proofs.Decided.{fills-type, fills-words, fills-poison, words-stay}
-use Rattle.changes.proofs.slots.fill.Statement.{statement}
-use Rattle.changes.proofs.slots.fill.Tie as tie
+use Rattle.slots.proofs.Doing.{fills-type, fills-words, fills-poison, words-stay}
+use Rattle.slots.proofs.writing.fill.Statement.{statement}
+use Rattle.slots.proofs.writing.fill.Tie as tie
 
 pub fill-spec : {M : Type 1} → statement M
 fill-spec =

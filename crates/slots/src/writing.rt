@@ -6,7 +6,7 @@ use updates::update;
 use ways::Operation;
 use ways::offers_type;
 ghost use mathlib.Core.Path.{_≡_};
-ghost use Rattle.changes.specs.Changes as rules;
+ghost use Rattle.slots.specs.Deeds as rules;
 
 fn typed(id: u32, authority: bool, place: u64, offered: &[u64]) -> Symbol
     ensures { λ r. ⌜ r ≡ rules.typed id authority place (now (offered .entry)) ⌝ }
@@ -35,7 +35,7 @@ fn poisoned(id: u32, authority: bool, place: u64, mark: u64) -> Symbol
 }
 
 // The record of a type, whose words are written, or of poison.
-pub(crate) fn fill(
+pub fn fill(
     operation: Operation,
     words: &mut [u64],
     id: u32,
@@ -56,7 +56,7 @@ pub(crate) fn fill(
 }
 
 // What an operation does to a record that has the id, and to its words.
-pub(crate) fn overwrite(
+pub fn overwrite(
     operation: Operation,
     s: Symbol,
     words: &mut [u64],
