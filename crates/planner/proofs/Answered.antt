@@ -14,8 +14,8 @@ use Rattle.forms.specs.Formed.{wellFormed}
 use Rattle.relations.specs.Relations.{identical}
 use Rattle.coercions.specs.Coercions.{coerces, addressCoerces}
 use Rattle.sizes.specs.Depth.{pointerDepth}
-use Rattle.tables.specs.declared.symbol.Symbol.{Symbol}
-use Rattle.tables.specs.Order.{inOrder}
+use Rattle.columns.specs.declared.symbol.Symbol.{Symbol}
+use Rattle.orders.specs.Order.{inOrder}
 use Rattle.steps.specs.Steps.{Step, steps, goodSteps, stepWords, stepsAnswer}
 use Rattle.turns.specs.declared.turn.Turn.{Turn}
 use Rattle.turns.specs.declared.turn.Turn.the-variants.{Stuck, Auto, Element, Desliced, Member}

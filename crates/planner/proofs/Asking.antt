@@ -16,11 +16,13 @@ use Rattle.layers.specs.declared.answers.Checked.the-variants.{Good, Refused}
 use Rattle.layers.proofs.Given.{not-given}
 use Rattle.layers.proofs.Accepted.{Whole, accepted-whole}
 use Rattle.forms.specs.Formed.{wellFormed}
-use Rattle.tables.specs.declared.symbol.Symbol.{Symbol}
-use Rattle.tables.specs.Rows.{readFrom, gathered}
-use Rattle.tables.specs.Order.{inOrder}
-use Rattle.tables.proofs.Columns.{length-read, swapped}
-use Rattle.tables.proofs.Ordered.{ordered, too-long}
+use Rattle.columns.specs.declared.symbol.Symbol.{Symbol}
+use Rattle.columns.specs.Rows.{readFrom}
+use Rattle.tables.specs.Gathered.{gathered}
+use Rattle.orders.specs.Order.{inOrder}
+use Rattle.columns.proofs.Reading.{length-read}
+use Rattle.tables.proofs.Gathering.{swapped}
+use Rattle.orders.proofs.Ordered.{ordered, too-long}
 use Rattle.steps.specs.Steps.{steps, stepsAnswer}
 use Rattle.walker.specs.Walker.{Stored}
 use Rattle.walker.specs.Members.{memberIn, ofLayers, members, memberWords}

@@ -16,12 +16,12 @@ use Rattle.layers.proofs.Accepted.{goodLayers, accepted-good}
 use Rattle.layers.proofs.Spelling.{spelled-length, layers-spelled}
 use Rattle.buffers.specs.Written.{written}
 use Rattle.buffers.proofs.Writing.{fits}
-use Rattle.tables.specs.declared.symbol.Symbol.{Symbol}
-use Rattle.tables.specs.Rows.{vacant}
-use Rattle.tables.specs.Order as order
-use Rattle.tables.specs.Order.{isGood, passes, slotFor, inOrder}
-use Rattle.tables.proofs.Ordered.{ordered}
-use Rattle.tables.proofs.Setting.{pass-at}
+use Rattle.columns.specs.declared.symbol.Symbol.{Symbol}
+use Rattle.columns.specs.Rows.{vacant}
+use Rattle.orders.specs.Order as order
+use Rattle.columns.specs.Search.{slotFor}
+use Rattle.orders.specs.Order.{isGood, passes, inOrder}
+use Rattle.orders.proofs.Ordered.{ordered, pass-at}
 use Rattle.steps.specs.Steps.{steps, stepWords}
 use Rattle.steps.proofs.Words.{words-length, words-back}
 use Rattle.walker.specs.Walker.{Stored, typed, absent}

@@ -7,8 +7,8 @@ use lib.Dec.{ltb}
 use Rattle.layers.specs.Layers.{layers}
 use Rattle.layers.specs.Answer.{Answer, given, refused, next}
 use Rattle.layers.specs.Check.{checkOf}
-use Rattle.tables.specs.declared.symbol.Symbol.{Symbol}
-use Rattle.tables.specs.Order.{inOrder}
+use Rattle.columns.specs.declared.symbol.Symbol.{Symbol}
+use Rattle.orders.specs.Order.{inOrder}
 use Rattle.steps.specs.Steps.{steps, stepsAnswer}
 use Rattle.walker.specs.Members.{members}
 use Rattle.planner.specs.Plan.{Plan, planOf}

@@ -9,7 +9,7 @@ use prog.Wp.{Heap}
 use ghost.Atoms.{Atoms}
 use contract.Monad.{Fun}
 use denote.Triple.Entry.{Args}
-use Rattle.tables.proofs.Single.{Walked}
+use Rattle.columns.proofs.Single.{Walked}
 use contract.Lifetimes.{Lfts}
 use denote.Ref.{now}
 use denote.Triple.Clauses.{AtExit}
@@ -191,8 +191,8 @@ module _ {M : Type 1} (𝓤 : URA M) (H : Heap 𝓤) (A : Atoms 𝓤) (mem : Mem
   tj-update-symbol-single κs a = (_, (λ x s. refl, λ x y s t p q. (p .0 ∙ sym (q .0), p .1 ∙ sym (q .1), p .2 ∙ sym (q .2))))
 
   pub tj-put-nothing-single : (κs : Lfts 2) (a : Args tj-put-nothing.signature κs) → Walked 𝓤 (tj-put-nothing.clauses 𝓤 H A mem run κs a .ensures tt)
-      (λ x s y t. x ≡ y)
-  tj-put-nothing-single κs a = (_, (λ x s. refl, λ x y s t p q. p ∙ sym q))
+      (λ x s y t. (x ≡ y) × (now (s .0) ≡ now (t .0)) × (now (s .1 .0) ≡ now (t .1 .0)))
+  tj-put-nothing-single κs a = (_, (λ x s. refl, λ x y s t p q. (p .0 ∙ sym (q .0), p .1 ∙ sym (q .1), p .2 ∙ sym (q .2))))
 
   pub tj-put-type-single : (κs : Lfts 3) (a : Args tj-put-type.signature κs) → Walked 𝓤 (tj-put-type.clauses 𝓤 H A mem run κs a .ensures tt)
       (λ x s y t. (x ≡ y) × (now (s .0) ≡ now (t .0)) × (now (s .1 .0) ≡ now (t .1 .0)))

@@ -10,6 +10,7 @@ mod starts;
 mod uses;
 
 pub use answers::Answer;
+pub use columns::Symbol;
 pub use fixing::tj_fix_type_for_flags;
 pub use measures::tj_known_size_in_bytes_as_word_member;
 pub use measures::tj_max_u128;
@@ -47,7 +48,6 @@ pub use starts::tj_fully_dereferenced;
 pub use starts::tj_get_element_type;
 pub use starts::tj_get_pointee_type;
 pub use starts::tj_get_viewee_type;
-pub use tables::Symbol;
 pub use uses::tj_can_be_constant;
 pub use uses::tj_can_be_parameter;
 pub use uses::tj_can_be_returned;

@@ -12,7 +12,7 @@ use contract.Lifetimes.{Lfts}
 use contract.Monad.{Fun}
 use denote.Ref.{now}
 use denote.Triple.Entry.{Args}
-use Rattle.tables.proofs.Single.{Walked}
+use Rattle.columns.proofs.Single.{Walked}
 use Rattle.walks.proofs.entry.walk as walk
 
 module _ {M : Type 1} (𝓤 : URA M) (H : Heap 𝓤) (A : Atoms 𝓤) (mem : Memory → SProp 𝓤) (run : Routine → Fun 𝓤) where

@@ -14,11 +14,13 @@ use Rattle.layers.specs.Answer.{given, refused, ofChecked, next}
 use Rattle.layers.specs.Check.{checkOf}
 use Rattle.layers.specs.declared.answers.Checked.{Checked}
 use Rattle.layers.specs.declared.answers.Checked.the-variants.{Good, Refused}
-use Rattle.tables.specs.Rows.{readFrom, gathered}
-use Rattle.tables.specs.Order.{isGood, inOrder}
-use Rattle.tables.specs.declared.symbol.Symbol.{Symbol}
-use Rattle.tables.proofs.Columns.{length-read, swapped}
-use Rattle.tables.proofs.Ordered.{ordered, too-long}
+use Rattle.columns.specs.Rows.{readFrom}
+use Rattle.tables.specs.Gathered.{gathered}
+use Rattle.orders.specs.Order.{isGood, inOrder}
+use Rattle.columns.specs.declared.symbol.Symbol.{Symbol}
+use Rattle.columns.proofs.Reading.{length-read}
+use Rattle.tables.proofs.Gathering.{swapped}
+use Rattle.orders.proofs.Ordered.{ordered, too-long}
 use Rattle.answers.specs.Flat.{notAccepted, flat}
 use Rattle.answers.specs.declared.flat.Answer.{Answer}
 use Rattle.steps.specs.Steps.{steps, stepsAnswer}

@@ -11,8 +11,8 @@ use Rattle.kinds.specs.Kind as kind
 use Rattle.layers.specs.Layers.{Layer, layer, layers}
 use Rattle.layers.specs.Answer.{Answer, given, nothing, refused, next}
 use Rattle.layers.specs.Check.{checkOf}
-use Rattle.tables.specs.Order.{inOrder}
-use Rattle.tables.specs.declared.symbol.Symbol.{Symbol}
+use Rattle.orders.specs.Order.{inOrder}
+use Rattle.columns.specs.declared.symbol.Symbol.{Symbol}
 use Rattle.steps.specs.Steps.{Step, step, steps, stepsAnswer}
 use Rattle.walker.specs.Walker.{Where, at, stuck, Stored, act, then, walker, arrives}
 use Rattle.walker.specs.Members.{members}

@@ -40,9 +40,10 @@ use denote.Triple.Walked.{says, Stays, stay-none, stay-none-slice, gave-slice, w
 use denote.Exit.{yes}
 use denote.Signature.{plain}
 use Rattle.layers.specs.Answer.{Answer}
-use Rattle.tables.specs.declared.symbol.Symbol.{Symbol}
-use Rattle.tables.specs.Rows.{readFrom, gathered}
-use Rattle.tables.proofs.symbol.Symbol as R
+use Rattle.columns.specs.declared.symbol.Symbol.{Symbol}
+use Rattle.columns.specs.Rows.{readFrom}
+use Rattle.tables.specs.Gathered.{gathered}
+use Rattle.columns.proofs.symbol.Symbol as R
 use Rattle.tables.proofs.gather as gather
 use Rattle.tables.proofs.gather.Symbol as gather-def
 use Rattle.tables.proofs.gather.Symbol.{name as #gather}

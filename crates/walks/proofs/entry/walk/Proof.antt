@@ -42,9 +42,10 @@ use denote.Exit.{yes}
 use denote.Signature.{plain}
 use Rattle.layers.specs.Layers.{Layer}
 use Rattle.layers.specs.Answer as paper
-use Rattle.tables.specs.declared.symbol.Symbol.{Symbol}
-use Rattle.tables.specs.Rows.{readFrom, gathered}
-use Rattle.tables.proofs.symbol.Symbol as R
+use Rattle.columns.specs.declared.symbol.Symbol.{Symbol}
+use Rattle.columns.specs.Rows.{readFrom}
+use Rattle.tables.specs.Gathered.{gathered}
+use Rattle.columns.proofs.symbol.Symbol as R
 use Rattle.tables.proofs.gather as gather
 use Rattle.tables.proofs.gather.Symbol as gather-def
 use Rattle.tables.proofs.gather.Symbol.{name as #gather}
