@@ -14,7 +14,7 @@ ghost use Rattle.tables.specs.Rows.{readFrom};
 ghost use Rattle.symbols.specs.Changes as rules;
 
 // A slot and its new record, with the answer. Past the last slot: no record is stored.
-pub(crate) struct Change {
+pub struct Change {
     pub slot: usize,
     pub symbol: Symbol,
     pub answer: Answer,
@@ -51,7 +51,7 @@ fn in_slot(slot: usize, u: Updated) -> Change
 }
 
 // The change of a table that is given by its columns. The store's part is lent on, and written there.
-pub(crate) fn choose(
+pub fn choose(
     flat: [u64; 768],
     n: usize,
     store: &mut [u64],

@@ -64,7 +64,8 @@ fn tell(got: Got, found: &mut u64) -> Answer
     }
 }
 
-fn get_among(
+// What a table that is given by its columns has under a name.
+pub fn get_among(
     flat: [u64; 768],
     n: usize,
     store: &[u64],

@@ -8,7 +8,8 @@ ghost use mathlib.Core.Path.{_≡_};
 ghost use Rattle.tables.specs.Rows.{readFrom};
 ghost use Rattle.symbols.specs.Gets as rules;
 
-fn check_among(flat: [u64; 768], n: usize, store: &[u64]) -> Answer
+// Whether a table that is given by its columns is in order with its store.
+pub fn check_among(flat: [u64; 768], n: usize, store: &[u64]) -> Answer
     ensures { λ r. ⌜ r ≡ rules.nothingPut (readFrom flat 0 n) (now (store .entry)) ⌝ }
 {
     if in_order(&flat, n, store) {
