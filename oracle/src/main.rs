@@ -4,6 +4,7 @@ include!(concat!(env!("OUT_DIR"), "/penne.rs"));
 
 mod answers;
 mod ask;
+mod blank;
 mod cases;
 mod caught;
 #[cfg(face)]
@@ -12,16 +13,16 @@ mod compare;
 mod disorder;
 #[cfg(face)]
 mod face;
-#[cfg(face)]
 mod journeys;
 #[cfg(face)]
 mod lent;
 #[cfg(face)]
 mod plan_face;
-#[cfg(face)]
+mod plan_lines;
 mod planning;
 #[cfg(face)]
 mod plans;
+mod pools;
 // Its fields are there for the original's text to fill in.
 #[allow(dead_code)]
 mod prelude;
@@ -31,6 +32,8 @@ mod records;
 mod script;
 #[cfg(face)]
 mod small;
+#[cfg(face)]
+mod small_plans;
 mod smoke;
 mod symbols;
 mod types;
@@ -41,7 +44,7 @@ use std::io::Write;
 use std::process::exit;
 
 const USAGE: &str =
-    "oracle smoke | oracle cases | oracle script FILE | oracle answers COUNT SEED | oracle compare SCALE SEED";
+    "oracle smoke | oracle cases | oracle plans | oracle script FILE | oracle answers COUNT SEED | oracle compare SCALE SEED";
 
 fn main() {
     let words: Vec<String> = env::args().skip(1).collect();
@@ -49,6 +52,7 @@ fn main() {
     match words[..] {
         ["smoke"] => verdict(smoke::smoke()),
         ["cases"] => write(&cases::cases()),
+        ["plans"] => write(&plan_lines::plans()),
         ["script", file] => match std::fs::read_to_string(file) {
             Ok(text) => write(&script::script(&text)),
             Err(error) => fail(&format!("{file}: {error}")),
