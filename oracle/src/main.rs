@@ -16,6 +16,7 @@ mod face;
 mod journeys;
 #[cfg(face)]
 mod lent;
+mod listed;
 #[cfg(face)]
 mod plan_face;
 mod plan_lines;
