@@ -4,6 +4,7 @@ include!(concat!(env!("OUT_DIR"), "/penne.rs"));
 
 mod answers;
 mod ask;
+mod blank;
 mod cases;
 mod caught;
 #[cfg(face)]
@@ -14,16 +15,17 @@ mod damage;
 mod disorder;
 #[cfg(face)]
 mod face;
-#[cfg(face)]
 mod journeys;
 #[cfg(face)]
 mod lent;
+mod listed;
 #[cfg(face)]
 mod plan_face;
-#[cfg(face)]
+mod plan_lines;
 mod planning;
 #[cfg(face)]
 mod plans;
+mod pools;
 // Its fields are there for the original's text to fill in.
 #[allow(dead_code)]
 mod prelude;
@@ -36,6 +38,8 @@ mod sheet_face;
 mod sheets;
 #[cfg(face)]
 mod small;
+#[cfg(face)]
+mod small_plans;
 mod smoke;
 mod symbols;
 mod types;
@@ -46,7 +50,7 @@ use std::io::Write;
 use std::process::exit;
 
 const USAGE: &str =
-    "oracle smoke | oracle cases | oracle script FILE | oracle pairs FILE | oracle answers COUNT SEED | oracle compare SCALE SEED";
+    "oracle smoke | oracle cases | oracle plans | oracle script FILE | oracle pairs FILE | oracle answers COUNT SEED | oracle compare SCALE SEED";
 
 fn main() {
     let words: Vec<String> = env::args().skip(1).collect();
@@ -54,6 +58,7 @@ fn main() {
     match words[..] {
         ["smoke"] => verdict(smoke::smoke()),
         ["cases"] => write(&cases::cases()),
+        ["plans"] => write(&plan_lines::plans()),
         ["script", file] => match std::fs::read_to_string(file) {
             Ok(text) => write(&script::script(&text)),
             Err(error) => fail(&format!("{file}: {error}")),

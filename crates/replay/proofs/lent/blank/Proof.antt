@@ -1,21 +1,20 @@
 use Prim.Native.Nat.{_-_}
 use borrow.Author.Needs.{needs}
-use Rattle.replay.proofs.fixing.holds.Statement.{statement}
-use Rattle.replay.proofs.fixing.holds.Tie as tie
+use Rattle.replay.proofs.lent.blank.Statement.{statement}
+use Rattle.replay.proofs.lent.blank.Tie as tie
 
 abbrev Inv-loop : tie.InvT-loop
-Inv-loop out words written same₀ i₀ same i = Unit
+Inv-loop ws₀ i₀ ws i = Unit
 
 abbrev μ-loop : tie.MeasureT-loop
-μ-loop out words written same₀ i₀ same i = 64 - i
+μ-loop ws₀ i₀ ws i = 640 - i
 
-pub holds-spec : {M : Type 1} → statement M
-holds-spec =
+pub blank-spec : {M : Type 1} → statement M
+blank-spec =
     tie.close
     (tie.spec
     Inv-loop
     μ-loop
-    (λ c. search needs)
     (λ c. search needs)
     (λ c. search needs)
     (λ c. search needs)

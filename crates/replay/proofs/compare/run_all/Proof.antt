@@ -1,8 +1,8 @@
 use Prim.Native.Nat.{_-_, _≤_}
 use lib.ListN.{length}
 use borrow.Author.Needs.{needs}
-use Rattle.replay.proofs.compare.run.Statement.{statement}
-use Rattle.replay.proofs.compare.run.Tie as tie
+use Rattle.replay.proofs.compare.run_all.Statement.{statement}
+use Rattle.replay.proofs.compare.run_all.Tie as tie
 
 abbrev Inv-loop : tie.InvT-loop
 Inv-loop s at₀ cases₀ failed₀ at cases failed = (at ≤ length s) × (cases ≤ at) × (failed ≤ cases)
@@ -10,8 +10,8 @@ Inv-loop s at₀ cases₀ failed₀ at cases failed = (at ≤ length s) × (case
 abbrev μ-loop : tie.MeasureT-loop
 μ-loop s at₀ cases₀ failed₀ at cases failed = length s - at
 
-pub run-spec : {M : Type 1} → statement M
-run-spec =
+pub run-all-spec : {M : Type 1} → statement M
+run-all-spec =
     tie.close
     (tie.spec
     Inv-loop
