@@ -1,22 +1,22 @@
 -- What is printed of the bytes that were read.
 -- Assumes nothing.
-use mathlib.Core.Path.{_≡_, refl, sym, _∙_}
-use mathlib.Core.List.{List, [], _∷_, _++_}
-use Prim.Native.Nat.{ℕ, _+_, _*_, _/_, _≤_, _<_}
+use mathlib.Core.Path.{_≡_, sym, _∙_}
+use mathlib.Core.List.{List, _++_}
+use Prim.Native.Nat.{ℕ, _+_, _/_, _≤_, _<_}
 use native.Mathlib.Nat.{zero-add}
 use native.Mathlib.Omega.{arith}
-use lib.ListN.{length, length-append, take, drop, replicate}
+use lib.ListN.{length, length-append, take, replicate}
 use lib.Seq.{length-take-le}
 use Rattle.buffers.specs.Written.{written}
 use Rattle.buffers.proofs.Writing.{fits, length-written}
-use Rattle.layers.specs.Answer.{Answer, given, refused, ofChecked}
+use Rattle.layers.specs.Answer.{given, refused, ofChecked}
 use Rattle.layers.specs.declared.answers.Checked.{Checked}
 use Rattle.layers.specs.declared.answers.Checked.the-variants as checked
 use Rattle.sheets.specs.Sheet.{types, wholeWords, readSheet}
 use Rattle.sheets.proofs.Read.{Read, was-read, small-number}
 use Rattle.sheets.proofs.Decoding.{words-back}
 use Rattle.lines.specs.Put.{putAt}
-use Rattle.lines.specs.Text.{decimal, header, rows, refusal, text}
+use Rattle.lines.specs.Text.{header, rows, refusal, text}
 use Rattle.lines.proofs.Putting.{digits-few}
 use Rattle.lines.proofs.Texts.{all-short}
 
