@@ -11,42 +11,42 @@ pub struct Raw {
 }
 
 extern "C" {
-    fn tj_check(t: *const u64, n: usize) -> Raw;
-    fn tj_is_wellformed(t: *const u64, n: usize) -> Raw;
-    fn tj_is_void(t: *const u64, n: usize) -> Raw;
-    fn tj_is_integral(t: *const u64, n: usize) -> Raw;
-    fn tj_is_signed(t: *const u64, n: usize) -> Raw;
-    fn tj_is_bitfield(t: *const u64, n: usize) -> Raw;
-    fn tj_is_slice_pointer(t: *const u64, n: usize) -> Raw;
-    fn tj_can_be_sized(t: *const u64, n: usize) -> Raw;
-    fn tj_can_be_struct_member(t: *const u64, n: usize) -> Raw;
-    fn tj_can_be_word_member(t: *const u64, n: usize) -> Raw;
-    fn tj_can_be_constant(t: *const u64, n: usize) -> Raw;
-    fn tj_can_be_variable(t: *const u64, n: usize) -> Raw;
-    fn tj_can_be_parameter(t: *const u64, n: usize) -> Raw;
-    fn tj_can_be_returned(t: *const u64, n: usize) -> Raw;
-    fn tj_get_element_type(t: *const u64, n: usize) -> Raw;
-    fn tj_get_pointee_type(t: *const u64, n: usize) -> Raw;
-    fn tj_get_viewee_type(t: *const u64, n: usize) -> Raw;
-    fn tj_fully_dereferenced(t: *const u64, n: usize) -> Raw;
-    fn tj_pointer_depth(t: *const u64, n: usize) -> Raw;
+    pub fn tj_check(t: *const u64, n: usize) -> Raw;
+    pub fn tj_is_wellformed(t: *const u64, n: usize) -> Raw;
+    pub fn tj_is_void(t: *const u64, n: usize) -> Raw;
+    pub fn tj_is_integral(t: *const u64, n: usize) -> Raw;
+    pub fn tj_is_signed(t: *const u64, n: usize) -> Raw;
+    pub fn tj_is_bitfield(t: *const u64, n: usize) -> Raw;
+    pub fn tj_is_slice_pointer(t: *const u64, n: usize) -> Raw;
+    pub fn tj_can_be_sized(t: *const u64, n: usize) -> Raw;
+    pub fn tj_can_be_struct_member(t: *const u64, n: usize) -> Raw;
+    pub fn tj_can_be_word_member(t: *const u64, n: usize) -> Raw;
+    pub fn tj_can_be_constant(t: *const u64, n: usize) -> Raw;
+    pub fn tj_can_be_variable(t: *const u64, n: usize) -> Raw;
+    pub fn tj_can_be_parameter(t: *const u64, n: usize) -> Raw;
+    pub fn tj_can_be_returned(t: *const u64, n: usize) -> Raw;
+    pub fn tj_get_element_type(t: *const u64, n: usize) -> Raw;
+    pub fn tj_get_pointee_type(t: *const u64, n: usize) -> Raw;
+    pub fn tj_get_viewee_type(t: *const u64, n: usize) -> Raw;
+    pub fn tj_fully_dereferenced(t: *const u64, n: usize) -> Raw;
+    pub fn tj_pointer_depth(t: *const u64, n: usize) -> Raw;
 
-    fn tj_known_size_in_bytes_as_word_member(t: *const u64, n: usize, size: *mut u64) -> Raw;
-    fn tj_stored_size(t: *const u64, n: usize, size: *mut u64) -> Raw;
-    fn tj_min_i128(t: *const u64, n: usize, low: *mut u64, high: *mut u64) -> Raw;
-    fn tj_max_u128(t: *const u64, n: usize, low: *mut u64, high: *mut u64) -> Raw;
+    pub fn tj_known_size_in_bytes_as_word_member(t: *const u64, n: usize, size: *mut u64) -> Raw;
+    pub fn tj_stored_size(t: *const u64, n: usize, size: *mut u64) -> Raw;
+    pub fn tj_min_i128(t: *const u64, n: usize, low: *mut u64, high: *mut u64) -> Raw;
+    pub fn tj_max_u128(t: *const u64, n: usize, low: *mut u64, high: *mut u64) -> Raw;
 
-    fn tj_identical(a: *const u64, na: usize, b: *const u64, nb: usize) -> Raw;
-    fn tj_equals(a: *const u64, na: usize, b: *const u64, nb: usize) -> Raw;
-    fn tj_is_like(a: *const u64, na: usize, b: *const u64, nb: usize) -> Raw;
-    fn tj_can_be_declared_as(a: *const u64, na: usize, b: *const u64, nb: usize) -> Raw;
-    fn tj_can_be_concretization_of(a: *const u64, na: usize, b: *const u64, nb: usize) -> Raw;
-    fn tj_can_coerce_into(a: *const u64, na: usize, b: *const u64, nb: usize) -> Raw;
-    fn tj_can_coerce_address_into(a: *const u64, na: usize, b: *const u64, nb: usize) -> Raw;
-    fn tj_can_autoderef_into(a: *const u64, na: usize, b: *const u64, nb: usize) -> Raw;
-    fn tj_can_subautoderef_into(a: *const u64, na: usize, b: *const u64, nb: usize) -> Raw;
+    pub fn tj_identical(a: *const u64, na: usize, b: *const u64, nb: usize) -> Raw;
+    pub fn tj_equals(a: *const u64, na: usize, b: *const u64, nb: usize) -> Raw;
+    pub fn tj_is_like(a: *const u64, na: usize, b: *const u64, nb: usize) -> Raw;
+    pub fn tj_can_be_declared_as(a: *const u64, na: usize, b: *const u64, nb: usize) -> Raw;
+    pub fn tj_can_be_concretization_of(a: *const u64, na: usize, b: *const u64, nb: usize) -> Raw;
+    pub fn tj_can_coerce_into(a: *const u64, na: usize, b: *const u64, nb: usize) -> Raw;
+    pub fn tj_can_coerce_address_into(a: *const u64, na: usize, b: *const u64, nb: usize) -> Raw;
+    pub fn tj_can_autoderef_into(a: *const u64, na: usize, b: *const u64, nb: usize) -> Raw;
+    pub fn tj_can_subautoderef_into(a: *const u64, na: usize, b: *const u64, nb: usize) -> Raw;
 
-    fn tj_fix_type_for_flags(
+    pub fn tj_fix_type_for_flags(
         t: *const u64,
         n: usize,
         external: bool,

@@ -31,7 +31,7 @@ impl Journey {
 }
 
 /// A type that mostly is well formed and mostly ends with a Struct or a Word.
-fn leading(random: &mut Random) -> Vec<Layer> {
+pub fn leading(random: &mut Random) -> Vec<Layer> {
     let most = random.pick(&[1, 2, 3, 4, 4, 8, 16]);
     let mut t = match random.once_in(3) {
         true => vec![[POINTER, 0, 0]; random.below(most)],
@@ -91,7 +91,7 @@ fn any_step(random: &mut Random) -> [u64; 4] {
 
 /// A step that fits behind the Pointers and Views of this type, and where it leads; none at a leaf
 /// without members.
-fn fitting(
+pub fn fitting(
     random: &mut Random,
     current: &[Layer],
     first: u32,
@@ -168,7 +168,7 @@ pub fn journey(random: &mut Random) -> Journey {
 }
 
 /// A type that the settling looks at when the walk ends on this one.
-fn target(random: &mut Random, current: &[Layer]) -> Vec<Layer> {
+pub fn target(random: &mut Random, current: &[Layer]) -> Vec<Layer> {
     let t = match random.below(7) {
         0 => current.to_vec(),
         1 => [&[[POINTER, 0, 0]], current].concat(),

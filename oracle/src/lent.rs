@@ -6,7 +6,7 @@ use crate::face::{Raw, GUARD};
 use crate::symbols::{Asked, Operation, Symbol, Told};
 
 extern "C" {
-    fn tj_update_symbol(
+    pub fn tj_update_symbol(
         symbol: *mut Symbol,
         words: *mut u64,
         nwords: usize,
@@ -16,7 +16,7 @@ extern "C" {
         offered: *const u64,
         n: usize,
     ) -> Raw;
-    fn tj_put_nothing(
+    pub fn tj_put_nothing(
         table: *const Symbol,
         nt: usize,
         store: *const u64,
@@ -25,7 +25,7 @@ extern "C" {
         authority: bool,
         place: u64,
     ) -> Raw;
-    fn tj_get_symbol(
+    pub fn tj_get_symbol(
         table: *const Symbol,
         nt: usize,
         store: *const u64,
@@ -34,7 +34,7 @@ extern "C" {
         authority: bool,
         found: *mut u64,
     ) -> Raw;
-    fn tj_put_type(
+    pub fn tj_put_type(
         table: *mut Symbol,
         nt: usize,
         store: *mut u64,
@@ -45,7 +45,7 @@ extern "C" {
         offered: *const u64,
         n: usize,
     ) -> Raw;
-    fn tj_forward_declare_type(
+    pub fn tj_forward_declare_type(
         table: *mut Symbol,
         nt: usize,
         store: *mut u64,
@@ -56,7 +56,7 @@ extern "C" {
         offered: *const u64,
         n: usize,
     ) -> Raw;
-    fn tj_put_poison(
+    pub fn tj_put_poison(
         table: *mut Symbol,
         nt: usize,
         store: *mut u64,
@@ -66,7 +66,7 @@ extern "C" {
         place: u64,
         mark: u64,
     ) -> Raw;
-    fn tj_forward_declare_poison(
+    pub fn tj_forward_declare_poison(
         table: *mut Symbol,
         nt: usize,
         store: *mut u64,

@@ -4,6 +4,8 @@ include!(concat!(env!("OUT_DIR"), "/penne.rs"));
 
 mod answers;
 mod ask;
+#[cfg(face)]
+mod bench;
 mod blank;
 mod cases;
 mod caught;
@@ -50,7 +52,11 @@ use std::io::Write;
 use std::process::exit;
 
 const USAGE: &str =
-    "oracle smoke | oracle cases | oracle plans | oracle script FILE | oracle pairs FILE | oracle answers COUNT SEED | oracle compare SCALE SEED";
+    "oracle smoke | oracle cases | oracle plans | oracle script FILE | oracle pairs FILE | oracle answers COUNT SEED | oracle compare SCALE SEED | oracle bench [quick]";
+
+#[cfg(not(face))]
+const WITHOUT: &str =
+    "this oracle was built without the library: set TRESTLEJAY_LIB and build again";
 
 fn main() {
     let words: Vec<String> = env::args().skip(1).collect();
@@ -71,6 +77,8 @@ fn main() {
             write(&answers::answers(number(count) as usize, number(seed)));
         }
         ["compare", scale, seed] => run(number(scale), number(seed)),
+        ["bench"] => bench(false),
+        ["bench", "quick"] => bench(true),
         _ => fail(USAGE),
     }
 }
@@ -80,9 +88,19 @@ fn run(scale: u64, seed: u64) {
     verdict(compare::compare(scale, seed));
 }
 
+#[cfg(face)]
+fn bench(quick: bool) {
+    bench::bench(quick);
+}
+
 #[cfg(not(face))]
 fn run(_scale: u64, _seed: u64) {
-    fail("this oracle was built without the library: set TRESTLEJAY_LIB and build again");
+    fail(WITHOUT);
+}
+
+#[cfg(not(face))]
+fn bench(_quick: bool) {
+    fail(WITHOUT);
 }
 
 fn verdict((passed, failed): (u64, u64)) {
