@@ -17,8 +17,8 @@ use Rattle.layers.proofs.Spelling.{spelled-length, layers-spelled}
 use Rattle.buffers.specs.Written.{written}
 use Rattle.buffers.proofs.Writing.{fits}
 use Rattle.columns.specs.declared.symbol.Symbol.{Symbol}
+use Rattle.columns.specs.Rows as rows
 use Rattle.columns.specs.Rows.{vacant}
-use Rattle.orders.specs.Order as order
 use Rattle.columns.specs.Search.{slotFor}
 use Rattle.orders.specs.Order.{isGood, passes, inOrder}
 use Rattle.orders.proofs.Ordered.{ordered, pass-at}
@@ -65,7 +65,7 @@ module _ (table : List Symbol) (store : List ℕ) (id : ℕ) (ok : inOrder table
 
   member-good : goodLayers (layers (memberWords table store id)) ≡ true
   unfolding memberWords passes
-  member-good = by-state (order.typed s) (leb (s .layers) 16) (record-passes (ltb k (length table)) refl)
+  member-good = by-state (rows.typed s) (leb (s .layers) 16) (record-passes (ltb k (length table)) refl)
 
   abbrev typeIn : Stored → List Layer
   typeIn (typed t) = t
