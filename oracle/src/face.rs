@@ -2,6 +2,7 @@
 //! Extern fixing, in its order.
 
 use crate::ask::{Answer, FIXING};
+use crate::blank::{blank, KEPT};
 
 #[repr(C)]
 pub struct Raw {
@@ -101,8 +102,6 @@ static ENTRIES: [Entry; 32] = [
 
 /// Stands around and between everything that is lent.
 pub const GUARD: u64 = 0x6a75_6172_6421_a5a5;
-/// Stands in the outputs before the call.
-pub const KEPT: u64 = 0x6b65_7074_2121_5a5a;
 
 /// The library's answer, or what it did to words that it had no business with.
 pub fn answer(question: usize, a: &[u64], b: &[u64]) -> Result<Answer, String> {
@@ -154,11 +153,7 @@ pub fn answer(question: usize, a: &[u64], b: &[u64]) -> Result<Answer, String> {
 fn fixed(t: &[u64], external: bool, context: u64, room: usize) -> Result<Answer, String> {
     // guard, t, guard, output, guard
     let at = t.len() + 2;
-    let mut lent = vec![GUARD; at + room + 1];
-    lent[1..=t.len()].copy_from_slice(t);
-    for word in 0..room {
-        lent[at + word] = KEPT + word as u64;
-    }
+    let mut lent = [&[GUARD], t, &[GUARD], &blank(room), &[GUARD]].concat();
     let mut before = lent.clone();
 
     let base = lent.as_mut_ptr();

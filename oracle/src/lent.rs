@@ -1,7 +1,8 @@
 //! The proved library's C face: include/trestlejay.h, section Symbols. Everything that is lent stands
 //! between guards.
 
-use crate::face::{Raw, GUARD, KEPT};
+use crate::blank::KEPT;
+use crate::face::{Raw, GUARD};
 use crate::symbols::{Asked, Operation, Symbol, Told};
 
 extern "C" {
@@ -124,10 +125,7 @@ impl Lent {
         use Operation::*;
         let (nt, ns) = (self.table().len(), self.store().len());
         let (id, authority, place) = (asked.id, asked.authority, asked.place);
-        let offered = guarded(match &asked.operation {
-            PutType(words) | DeclareType(words) => words,
-            _ => &[],
-        });
+        let offered = guarded(asked.operation.offered());
         let mut lent = offered.clone();
         let n = lent.len() - 2;
         let mut found = [GUARD, KEPT, GUARD];

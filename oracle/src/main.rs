@@ -6,24 +6,28 @@ mod answers;
 mod ask;
 #[cfg(face)]
 mod bench;
+mod blank;
 mod cases;
 mod caught;
 #[cfg(face)]
 mod compare;
 #[cfg(face)]
+mod damage;
+#[cfg(face)]
 mod disorder;
 #[cfg(face)]
 mod face;
-#[cfg(face)]
 mod journeys;
 #[cfg(face)]
 mod lent;
+mod listed;
 #[cfg(face)]
 mod plan_face;
-#[cfg(face)]
+mod plan_lines;
 mod planning;
 #[cfg(face)]
 mod plans;
+mod pools;
 // Its fields are there for the original's text to fill in.
 #[allow(dead_code)]
 mod prelude;
@@ -32,7 +36,12 @@ mod random;
 mod records;
 mod script;
 #[cfg(face)]
+mod sheet_face;
+mod sheets;
+#[cfg(face)]
 mod small;
+#[cfg(face)]
+mod small_plans;
 mod smoke;
 mod symbols;
 mod types;
@@ -43,7 +52,7 @@ use std::io::Write;
 use std::process::exit;
 
 const USAGE: &str =
-    "oracle smoke | oracle cases | oracle script FILE | oracle answers COUNT SEED | oracle compare SCALE SEED | oracle bench [quick]";
+    "oracle smoke | oracle cases | oracle plans | oracle script FILE | oracle pairs FILE | oracle answers COUNT SEED | oracle compare SCALE SEED | oracle bench [quick]";
 
 #[cfg(not(face))]
 const WITHOUT: &str =
@@ -55,8 +64,13 @@ fn main() {
     match words[..] {
         ["smoke"] => verdict(smoke::smoke()),
         ["cases"] => write(&cases::cases()),
+        ["plans"] => write(&plan_lines::plans()),
         ["script", file] => match std::fs::read_to_string(file) {
             Ok(text) => write(&script::script(&text)),
+            Err(error) => fail(&format!("{file}: {error}")),
+        },
+        ["pairs", file] => match std::fs::read(file) {
+            Ok(bytes) => write(&sheets::text(&bytes)),
             Err(error) => fail(&format!("{file}: {error}")),
         },
         ["answers", count, seed] => {

@@ -1,8 +1,9 @@
 //! The proved library's C face: include/trestlejay.h, section Plans. Everything that is lent stands
 //! between guards.
 
+use crate::blank::blank;
 use crate::face::{Raw, GUARD};
-use crate::planning::{blank, Asked, Members, Told};
+use crate::planning::{Asked, Members, Told};
 use crate::symbols::{Symbol, FREE};
 
 /// include/trestlejay.h, tj_plan.

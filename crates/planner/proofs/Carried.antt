@@ -2,8 +2,8 @@
 -- Assumes nothing.
 use mathlib.Core.Path.{_≡_, refl, sym, ap, subst, _∙_}
 use mathlib.Core.Bool.{Bool, true, false, cond, _||_, true≢false, false≢true}
-use mathlib.Core.List.{List, [], _∷_, _++_}
-use Prim.Native.Nat.{ℕ, _*_, _/_, _≤_, _<_}
+use mathlib.Core.List.{List, [], _∷_}
+use Prim.Native.Nat.{ℕ, _*_, _/_, _≤_}
 use lib.Dec.{leb, ltb}
 use lib.ListN.{length, take, drop, getD, List·getD-eq-default}
 use lib.Seq.{take-at}
@@ -16,12 +16,12 @@ use Rattle.layers.proofs.Accepted.{goodLayers, accepted-good}
 use Rattle.layers.proofs.Spelling.{spelled-length, layers-spelled}
 use Rattle.buffers.specs.Written.{written}
 use Rattle.buffers.proofs.Writing.{fits}
-use Rattle.tables.specs.declared.symbol.Symbol.{Symbol}
-use Rattle.tables.specs.Rows.{vacant}
-use Rattle.tables.specs.Order as order
-use Rattle.tables.specs.Order.{isGood, passes, slotFor, inOrder}
-use Rattle.tables.proofs.Ordered.{ordered}
-use Rattle.tables.proofs.Setting.{pass-at}
+use Rattle.columns.specs.declared.symbol.Symbol.{Symbol}
+use Rattle.columns.specs.Rows as rows
+use Rattle.columns.specs.Rows.{vacant}
+use Rattle.columns.specs.Search.{slotFor}
+use Rattle.orders.specs.Order.{isGood, passes, inOrder}
+use Rattle.orders.proofs.Ordered.{ordered, pass-at}
 use Rattle.steps.specs.Steps.{steps, stepWords}
 use Rattle.steps.proofs.Words.{words-length, words-back}
 use Rattle.walker.specs.Walker.{Stored, typed, absent}
@@ -29,7 +29,7 @@ use Rattle.walker.specs.Members.{ofLayers, members, memberWords}
 use Rattle.planner.specs.declared.report.Report.{Report}
 use Rattle.planner.specs.Plan.{Plan, planOf}
 use Rattle.planner.specs.Report.{delivered, told, stepsOver, typeOver, planRead}
-use Rattle.planner.specs.Answers.{limits, question, planned, planAnswer}
+use Rattle.planner.specs.Answers.{limits, planned, planAnswer}
 use Rattle.planner.specs.Demand.{Demand}
 use Rattle.planner.proofs.Delivering.{second-fits}
 use Rattle.planner.proofs.Asking.{passed}
@@ -65,7 +65,7 @@ module _ (table : List Symbol) (store : List ℕ) (id : ℕ) (ok : inOrder table
 
   member-good : goodLayers (layers (memberWords table store id)) ≡ true
   unfolding memberWords passes
-  member-good = by-state (order.typed s) (leb (s .layers) 16) (record-passes (ltb k (length table)) refl)
+  member-good = by-state (rows.typed s) (leb (s .layers) 16) (record-passes (ltb k (length table)) refl)
 
   abbrev typeIn : Stored → List Layer
   typeIn (typed t) = t

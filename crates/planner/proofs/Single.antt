@@ -15,7 +15,7 @@ use denote.Triple.Clauses.{AtExit}
 use denote.Triple.Entry.{Args}
 use borrow.Fn.Kinds.{Dens, resT, endedOf}
 use Rattle.layers.specs.Layers.{layers}
-use Rattle.tables.proofs.Single.{Walked}
+use Rattle.columns.proofs.Single.{Walked}
 use Rattle.steps.specs.Steps.{steps}
 use Rattle.walker.specs.Members.{members}
 use Rattle.planner.specs.Report.{planRead}

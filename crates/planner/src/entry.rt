@@ -1,6 +1,6 @@
 use crate::plan::plan_among;
 use crate::report::Report;
-use tables::Symbol;
+use columns::Symbol;
 use tables::gather;
 ghost use mathlib.Core.Path.{_≡_};
 ghost use lib.ListN.{length};

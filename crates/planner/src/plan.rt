@@ -4,15 +4,14 @@ use crate::walk::walk;
 use forms::is_wellformed;
 use layers::Checked;
 use layers::check_type;
+use orders::in_order;
 use steps::check_steps;
-use tables::in_order;
 ghost use mathlib.Core.Path.{_≡_};
-ghost use mathlib.Core.Bool.{true};
 ghost use Prim.Native.Nat.{_≤_};
 ghost use lib.ListN.{length};
 ghost use Rattle.layers.specs.Answer.{ofChecked};
 ghost use Rattle.layers.proofs.Accepted.{Whole};
-ghost use Rattle.tables.specs.Rows.{readFrom};
+ghost use Rattle.columns.specs.Rows.{readFrom};
 ghost use Rattle.planner.specs.Report as report;
 ghost use Rattle.planner.specs.Answers as answers;
 

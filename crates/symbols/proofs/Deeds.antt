@@ -11,22 +11,25 @@ use lib.ListN.{length, take, drop}
 use lib.Seq.{take-append-seam, drop-append-add, drop-drop}
 use borrow.Author.Tests.{le-leb}
 use Rattle.layers.specs.Answer as paper
-use Rattle.layers.specs.Answer.{given, nothing, refused}
+use Rattle.layers.specs.Answer.{given, refused}
 use Rattle.layers.specs.Layers.{layers}
 use Rattle.layers.specs.Check as check
 use Rattle.layers.specs.Check.{Place, at, nowhere, badCount, badLayer, misplaced, checkOf}
 use Rattle.layers.proofs.Checks.{start}
 use Rattle.buffers.specs.Written.{written}
 use Rattle.buffers.proofs.Writing.{fits, length-written}
-use Rattle.tables.specs.declared.symbol.Symbol.{Symbol}
-use Rattle.tables.specs.Order.{free, isGood, passes}
+use Rattle.columns.specs.declared.symbol.Symbol.{Symbol}
+use Rattle.columns.specs.Rows.{free}
+use Rattle.orders.specs.Order.{isGood, passes}
 use Rattle.answers.specs.declared.flat.Answer.{Answer}
 use Rattle.answers.specs.Flat.{accepted}
 use Rattle.updates.proofs.Cases.{by-lines}
-use Rattle.symbols.specs.Changes.{offeredCheck, poisoned, typed, Deed, deed, overwrites, inserts}
-use Rattle.symbols.specs.declared.ways.Operation.{Operation}
-use Rattle.symbols.specs.declared.ways.Operation.the-variants as operation
-use Rattle.symbols.proofs.Decided.{notRefused}
+use Rattle.ways.specs.Ways.{offeredCheck}
+use Rattle.changes.specs.Changes.{inserts}
+use Rattle.slots.specs.Deeds.{poisoned, typed, Deed, deed, overwrites}
+use Rattle.ways.specs.declared.operations.Operation.{Operation}
+use Rattle.ways.specs.declared.operations.Operation.the-variants as operation
+use Rattle.ways.proofs.Decided.{notRefused}
 
 -- words that are not refused
 module _ (ws : List ℕ) (e : notRefused (checkOf ws) ≡ true) where
@@ -114,14 +117,19 @@ module _ (id : ℕ) (ws : List ℕ) (long : 48 ≤ length ws) (a : Answer) where
 
 module _ (id : ℕ) (authority : Bool) (place mark : ℕ) (offered ws : List ℕ) (long : 48 ≤ length ws) where
   pub inserts-fine : (op : Operation) → notRefused (offeredCheck op offered) ≡ true → Fine id ws (inserts op ws id authority place mark offered)
-  inserts-fine operation.PutType e = fine-typed id ws long _ authority place offered e
+  inserts-fine operation.PutNothing e = fine-poisoned id ws long _ authority place mark
   inserts-fine operation.PutPoison e = fine-poisoned id ws long _ authority place mark
-  inserts-fine operation.ForwardType e = fine-typed id ws long _ authority place offered e
+  inserts-fine operation.PutType e = fine-typed id ws long _ authority place offered e
   inserts-fine operation.ForwardPoison e = fine-poisoned id ws long _ authority place mark
+  inserts-fine operation.ForwardType e = fine-typed id ws long _ authority place offered e
 
   module _ (s : Symbol) (n : s .id ≡ id) (k : leb (s .state) 2 ≡ true) (t : free s ≡ false) (p : passes (s .state) (s .layers) ws ≡ true) where
     pub overwrites-fine : (op : Operation) → notRefused (offeredCheck op offered) ≡ true →
         Fine id ws (overwrites op s ws id authority place mark offered)
+    overwrites-fine operation.PutNothing e = fine-same id ws long _ s n k t p
+    overwrites-fine operation.PutPoison e =
+        subst (λ (i : ℕ). Fine i ws (overwrites operation.PutPoison s ws id authority place mark offered)) n
+        (fine-poisoned (s .id) ws long _ (s .authority) (s .place) mark)
     overwrites-fine operation.PutType e =
         by-lines s ws id authority place offered (λ r zs a. Fine id ws (deed r zs a))
         (fine-same id ws long _ s n k t p)
@@ -130,8 +138,5 @@ module _ (id : ℕ) (authority : Bool) (place mark : ℕ) (offered ws : List ℕ
         (fine-typed (s .id) ws long _ (s .authority) (s .place) offered e))
         (fine-typed id ws long _ authority place offered e)
         (fine-same id ws long _ s n k t p)
-    overwrites-fine operation.PutPoison e =
-        subst (λ (i : ℕ). Fine i ws (overwrites operation.PutPoison s ws id authority place mark offered)) n
-        (fine-poisoned (s .id) ws long _ (s .authority) (s .place) mark)
-    overwrites-fine operation.ForwardType e = fine-typed id ws long _ authority place offered e
     overwrites-fine operation.ForwardPoison e = fine-poisoned id ws long _ authority place mark
+    overwrites-fine operation.ForwardType e = fine-typed id ws long _ authority place offered e

@@ -1,7 +1,6 @@
 -- What the proofs of several functions use.
-pub mod Decided
 pub mod Whole
-pub mod Found
 pub mod Deeds
+pub mod Setting
 pub mod Theorems
 pub mod Single

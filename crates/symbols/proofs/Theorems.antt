@@ -18,26 +18,29 @@ use Rattle.layers.specs.Check.{Place, at, nowhere, badCount, badLayer, misplace
 use Rattle.relations.specs.Relations.{identical, concretization}
 use Rattle.relations.proofs.Theorems.{identical-reflexive}
 use Rattle.buffers.specs.Written.{written}
-use Rattle.tables.specs.declared.symbol.Symbol.{Symbol}
-use Rattle.tables.specs.Rows.{vacant}
-use Rattle.tables.specs.Order.{free, passes, inOrder, takenFirst, taken, hasId, repeats, slotFor, firstFree}
-use Rattle.tables.proofs.Sentences.{slot-has}
-use Rattle.tables.proofs.Ordered.{Ordered, ordered, in-order}
-use Rattle.tables.proofs.Setting.{states-set, state-at, first-set, first-new, ids-kept, ids-new, absent-id, pass-at, pass-set, slot-taken, slot-other, slot-kept, slot-new, free-at, words-before, words-after, turned-round}
+use Rattle.columns.specs.declared.symbol.Symbol.{Symbol}
+use Rattle.columns.specs.Rows.{vacant, free}
+use Rattle.columns.specs.Search.{slotFor, firstFree}
+use Rattle.orders.specs.Order.{passes, inOrder, takenFirst, taken, hasId, repeats}
+use Rattle.columns.proofs.Searching.{slot-has}
+use Rattle.orders.proofs.Ordered.{Ordered, ordered, in-order, pass-at}
+use Rattle.symbols.proofs.Setting.{states-set, state-at, first-set, first-new, ids-kept, ids-new, absent-id, pass-set, slot-taken, slot-other, slot-kept, slot-new, free-at, words-before, words-after, turned-round}
 use Rattle.answers.specs.declared.flat.Answer.{Answer}
 use Rattle.answers.specs.Flat.{accepted, notAccepted}
 use Rattle.updates.specs.Updates.{storedOf}
 use Rattle.updates.proofs.Cases.{by-lines}
 use Rattle.updates.proofs.Theorems.{poison-wins as update-poison, accepted-holds-offered}
-use Rattle.symbols.specs.Changes.{offeredCheck, placeOf, unless, wayOf, typed, Deed, deed, overwrites, inserts, Outcome, atSlot, outcomeBy, outcome}
-use Rattle.symbols.specs.Gets.{markFor, got, storedType, typeIn, typeOf}
-use Rattle.symbols.specs.declared.get.Got.{Got}
-use Rattle.symbols.specs.declared.get.Got.the-variants as got′
-use Rattle.symbols.specs.declared.ways.Operation.{Operation}
-use Rattle.symbols.specs.declared.ways.Operation.the-variants as operation
-use Rattle.symbols.specs.declared.ways.Way.{Way}
-use Rattle.symbols.specs.declared.ways.Way.the-variants as way
-use Rattle.symbols.proofs.Decided.{Within, found-is, found-in, found-has, new-is, new-in, new-absent, found-checked, new-checked, notRefused}
+use Rattle.ways.specs.Ways.{putsNothing, offeredCheck, placeOf, unless, wayOf}
+use Rattle.slots.specs.Deeds.{typed, Deed, deed, overwrites}
+use Rattle.changes.specs.Changes.{inserts, Outcome, atSlot, outcomeBy, outcome}
+use Rattle.lookups.specs.Gets.{markFor, got, storedType, typeIn, typeOf}
+use Rattle.lookups.specs.declared.get.Got.{Got}
+use Rattle.lookups.specs.declared.get.Got.the-variants as got′
+use Rattle.ways.specs.declared.operations.Operation.{Operation}
+use Rattle.ways.specs.declared.operations.Operation.the-variants as operation
+use Rattle.ways.specs.declared.slot.Way.{Way}
+use Rattle.ways.specs.declared.slot.Way.the-variants as way
+use Rattle.ways.proofs.Decided.{Within, found-is, found-in, found-has, new-is, new-in, new-absent, found-checked, new-checked, kept-by, notRefused}
 use Rattle.symbols.proofs.Deeds.{Fine, inserts-fine, overwrites-fine, few-words, whole-layers, words-there}
 
 -- a refusal's number is not 0
@@ -48,6 +51,7 @@ checkNumbered (refused n p) = not (eqb n 0)
 
 abbrev numbered : Way → Bool
 numbered (way.Refused n p) = not (eqb n 0)
+numbered way.Kept = true
 numbered (way.Found k) = true
 numbered (way.Free k) = true
 
@@ -62,31 +66,33 @@ check-numbered ws = by-parts (badCount (length ws)) (badLayer 0 (layers ws)) (mi
     by-parts false nowhere nowhere n = refl
 
 offered-numbered : (op : Operation) (offered : List ℕ) → checkNumbered (offeredCheck op offered) ≡ true
-offered-numbered operation.PutType offered = check-numbered offered
+offered-numbered operation.PutNothing offered = refl
 offered-numbered operation.PutPoison offered = refl
-offered-numbered operation.ForwardType offered = check-numbered offered
+offered-numbered operation.PutType offered = check-numbered offered
 offered-numbered operation.ForwardPoison offered = refl
+offered-numbered operation.ForwardType offered = check-numbered offered
 
 unless-numbered : (a : paper.Answer ℕ) (w : Way) → checkNumbered a ≡ true → numbered w ≡ true → numbered (unless a w) ≡ true
 unless-numbered (given n) w e f = f
 unless-numbered nothing w e f = f
 unless-numbered (refused n p) w e f = e
 
-place-numbered : (id : ℕ) (table : List Symbol) (store : List ℕ) → numbered (placeOf id table store) ≡ true
+place-numbered : (op : Operation) (id : ℕ) (table : List Symbol) (store : List ℕ) → numbered (placeOf op id table store) ≡ true
 unfolding placeOf
-place-numbered id table store = by-parts (inOrder table store) (ltb (slotFor id table) (length table)) (ltb (firstFree table) (length table))
+place-numbered op id table store = by-parts (inOrder table store) (putsNothing op) (ltb (slotFor id table) (length table)) (ltb (firstFree table) (length table))
   where
-    by-parts : (o t u : Bool) →
-        numbered (cond o (cond t (way.Found (slotFor id table)) (cond u (way.Free (firstFree table)) (way.Refused 13 0))) (way.Refused 12 0)) ≡ true
-    by-parts false t u = refl
-    by-parts true true u = refl
-    by-parts true false true = refl
-    by-parts true false false = refl
+    by-parts : (o s t u : Bool) →
+        numbered (cond o (cond s way.Kept (cond t (way.Found (slotFor id table)) (cond u (way.Free (firstFree table)) (way.Refused 13 0)))) (way.Refused 12 0)) ≡ true
+    by-parts false s t u = refl
+    by-parts true true t u = refl
+    by-parts true false true u = refl
+    by-parts true false false true = refl
+    by-parts true false false false = refl
 
 way-numbered : (op : Operation) (id : ℕ) (offered : List ℕ) (table : List Symbol) (store : List ℕ) → numbered (wayOf op id offered table store) ≡ true
 unfolding wayOf
 way-numbered op id offered table store =
-    unless-numbered (offeredCheck op offered) (placeOf id table store) (offered-numbered op offered) (place-numbered id table store)
+    unless-numbered (offeredCheck op offered) (placeOf op id table store) (offered-numbered op offered) (place-numbered op id table store)
 
 -- refused, or accepted with 0
 abbrev pub Quiet : Answer → Type 0
@@ -110,6 +116,7 @@ module _ (op : Operation) (id : ℕ) (authority : Bool) (place mark : ℕ) (offe
   same k a h = (set-getD table k vacant, take-append-drop (k * 48) store)
 
   found-quiet : (op : Operation) (k : ℕ) → let d = overwrites op (getD table k vacant) (tail k) id authority place mark offered in Kept k (d .symbol) (d .words) (d .answer)
+  found-quiet operation.PutNothing k = same k (accepted 0)
   found-quiet operation.PutType k =
       by-lines (getD table k vacant) (tail k) id authority place offered (Kept k) (same k (accepted 0)) (same k (notAccepted 4 0))
       (λ h. absurd (omega (arith, h refl))) (λ h. absurd (omega (arith, h refl))) (same k (notAccepted 7 0))
@@ -118,6 +125,7 @@ module _ (op : Operation) (id : ℕ) (authority : Bool) (place mark : ℕ) (offe
   found-quiet operation.ForwardPoison k = λ h. absurd (omega (arith, h refl))
 
   new-quiet : (op : Operation) (k : ℕ) → let d = inserts op (tail k) id authority place mark offered in Kept k (d .symbol) (d .words) (d .answer)
+  new-quiet operation.PutNothing k = λ h. absurd (omega (arith, h refl))
   new-quiet operation.PutType k = λ h. absurd (omega (arith, h refl))
   new-quiet operation.PutPoison k = λ h. absurd (omega (arith, h refl))
   new-quiet operation.ForwardType k = λ h. absurd (omega (arith, h refl))
@@ -125,6 +133,7 @@ module _ (op : Operation) (id : ℕ) (authority : Bool) (place mark : ℕ) (offe
 
   way-quiet : (w : Way) → Quiet (by w .answer) → (by w .table ≡ table) × (by w .store ≡ store)
   way-quiet (way.Refused n p) h = (refl, refl)
+  way-quiet way.Kept h = (refl, refl)
   way-quiet (way.Found k) h = found-quiet op k h
   way-quiet (way.Free k) h = new-quiet op k h
 
@@ -198,6 +207,7 @@ module _ (op : Operation) (id : ℕ) (authority : Bool) (place mark : ℕ) (offe
 
   way-order : (w : Way) → wayOf op id offered table store ≡ w → inOrder table store ≡ true → inOrder (by w .table) (by w .store) ≡ true
   way-order (way.Refused n p) e o = o
+  way-order way.Kept e o = o
   way-order (way.Found k) e o = in-order (by (way.Found k) .table) (by (way.Found k) .store) (found-order k e)
   way-order (way.Free k) e o = in-order (by (way.Free k) .table) (by (way.Free k) .store) (new-order k e)
 
@@ -238,6 +248,7 @@ module _ (op : Operation) (id : ℕ) (authority : Bool) (place mark : ℕ) (offe
 
   way-apart : (j : ℕ) → eqb j id ≡ false → (w : Way) → wayOf op id offered table store ≡ w → Apart j (by w)
   way-apart j other (way.Refused n p) e = (refl, λ h. (refl, refl))
+  way-apart j other way.Kept e = (refl, λ h. (refl, refl))
   way-apart j other (way.Found k) e =
       set-apart j k (overwrites op (getD table k vacant) (tail k) id authority place mark offered) other (found-in op id offered table store k e) (found-fine k e)
       (rw (found-has op id offered table store k e, turned-round j id other))
@@ -253,6 +264,7 @@ module _ (op : Operation) (id : ℕ) (authority : Bool) (place mark : ℕ) (offe
 
   way-sized : (w : Way) → length (by w .table) ≡ length table
   way-sized (way.Refused n p) = refl
+  way-sized way.Kept = refl
   way-sized (way.Found k) = length-set table k _
   way-sized (way.Free k) = length-set table k _
 
@@ -302,6 +314,7 @@ module _ (op : Operation) (id : ℕ) (authority : Bool) (place mark : ℕ) (offe
 
   -- Get after an accepted put or forward declaration of a type answers that type, where something changed.
   abbrev Offers : Operation → Type 0
+  Offers operation.PutNothing = ⊥
   Offers operation.PutType = Unit
   Offers operation.PutPoison = ⊥
   Offers operation.ForwardType = Unit
@@ -314,6 +327,7 @@ module _ (op : Operation) (id : ℕ) (authority : Bool) (place mark : ℕ) (offe
 
   found-finds : (op : Operation) (k : ℕ) → Offers op → Within table store k → notRefused (offeredCheck op offered) ≡ true →
       let d = overwrites op (getD table k vacant) (tail k) id authority place mark offered in Finds k (d .symbol) (d .words) (d .answer)
+  found-finds operation.PutNothing k t w e = absurd t
   found-finds operation.PutType k t w e =
       let s = getD table k vacant in
       by-lines s (tail k) id authority place offered (Finds k)
@@ -328,6 +342,7 @@ module _ (op : Operation) (id : ℕ) (authority : Bool) (place mark : ℕ) (offe
 
   new-finds : (op : Operation) (k : ℕ) → Offers op → Within table store k → notRefused (offeredCheck op offered) ≡ true →
       let d = inserts op (tail k) id authority place mark offered in Finds k (d .symbol) (d .words) (d .answer)
+  new-finds operation.PutNothing k t w e = absurd t
   new-finds operation.PutType k t w e = λ q o r v. wrote k id authority place (accepted 3) w e q o
   new-finds operation.PutPoison k t w e = absurd t
   new-finds operation.ForwardType k t w e = λ q o r v. wrote k id authority place (accepted 3) w e q o
@@ -336,6 +351,7 @@ module _ (op : Operation) (id : ℕ) (authority : Bool) (place mark : ℕ) (offe
   way-finds : (w : Way) → wayOf op id offered table store ≡ w → Offers op → by w .answer .refusal ≡ 0 → (by w .answer .value ≡ 0 → ⊥) → Holds (by w)
   way-finds (way.Refused n p) e t r v =
       absurd (false≢true (sym (ap (λ (m : ℕ). not (eqb m 0)) r) ∙ (ap numbered (sym e) ∙ way-numbered op id offered table store)))
+  way-finds way.Kept e t r v = absurd (v refl)
   way-finds (way.Found k) e t r v =
       let d = overwrites op (getD table k vacant) (tail k) id authority place mark offered in
       let at = found-is op id offered table store k e in
@@ -362,6 +378,18 @@ module _ (op : Operation) (id : ℕ) (authority : Bool) (place mark : ℕ) (offe
   pub get-type-of-what-was-put : Offers op → after .answer .refusal ≡ 0 → (after .answer .value ≡ 0 → ⊥) →
       typeOf id (after .table) (after .store) ≡ offered
   get-type-of-what-was-put t r v = held after (get-finds-what-was-put t r v)
+
+-- "Put with nothing: accepted, unchanged.", of a table in order.
+pub put-of-nothing : (id : ℕ) (authority : Bool) (place mark : ℕ) (offered : List ℕ) (table : List Symbol) (store : List ℕ) →
+    outcome operation.PutNothing id authority place mark offered table store
+    ≡ record { answer = cond (inOrder table store) (accepted 0) (notAccepted 12 0); table = table; store = store }
+unfolding outcome wayOf placeOf
+put-of-nothing id authority place mark offered table store = by-order (inOrder table store)
+  where
+    by-order : (o : Bool) → outcomeBy (cond o way.Kept (way.Refused 12 0)) operation.PutNothing id authority place mark offered table store
+        ≡ record { answer = cond o (accepted 0) (notAccepted 12 0); table = table; store = store }
+    by-order true = refl
+    by-order false = refl
 
 -- Poison wins until a forward declaration: a put of a type under a poisoned name is accepted and changes nothing.
 module _ (id : ℕ) (authority : Bool) (place mark : ℕ) (offered : List ℕ) (table : List Symbol) (store : List ℕ) where
@@ -403,8 +431,8 @@ module _ (id : ℕ) (authority : Bool) (place mark : ℕ) (offered : List ℕ) (
       (rw (parts .0, lt-ltb k (length table) below, wins .0, wins .1, set-getD, take-append-drop))
     where
       by-check : (a : paper.Answer ℕ) → notRefused a ≡ true →
-          outcomeBy (placeOf id table store) operation.PutType id authority place mark offered table store ≡ record { answer = accepted 0; table = table; store = store } →
-          outcomeBy (unless a (placeOf id table store)) operation.PutType id authority place mark offered table store ≡ record { answer = accepted 0; table = table; store = store }
+          outcomeBy (placeOf operation.PutType id table store) operation.PutType id authority place mark offered table store ≡ record { answer = accepted 0; table = table; store = store } →
+          outcomeBy (unless a (placeOf operation.PutType id table store)) operation.PutType id authority place mark offered table store ≡ record { answer = accepted 0; table = table; store = store }
       by-check (given n) g h = h
       by-check nothing g h = h
       by-check (refused n p) g h = absurd (false≢true g)
@@ -499,6 +527,7 @@ module _ (id : ℕ) (authority : Bool) (place mark : ℕ) (offered : List ℕ) (
           let o = outcomeBy w operation.PutType id authority place mark offered table store in o .answer .refusal ≡ 0 → Suits (typeOf id (o .table) (o .store))
       by-way (way.Refused n p) e r =
           absurd (false≢true (sym (ap (λ (m : ℕ). not (eqb m 0)) r) ∙ (ap numbered (sym e) ∙ way-numbered operation.PutType id offered table store)))
+      by-way way.Kept e r = absurd (false≢true (kept-by operation.PutType id offered table store e))
       by-way (way.Found k) e r = found-suits k e clean r
       by-way (way.Free k) e r =
           let o = outcomeBy (way.Free k) operation.PutType id authority place mark offered table store in

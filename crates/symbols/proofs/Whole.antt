@@ -1,25 +1,27 @@
 -- From the core, which sees a table's columns, to the table.
 -- Assumes nothing.
-use mathlib.Core.Path.{_≡_, refl, ap, subst, _∙_}
-use mathlib.Core.Bool.{Bool, not}
-use mathlib.Core.List.{List}
+use mathlib.Core.Path.{_≡_, refl, ap, _∙_}
+use mathlib.Core.Bool.{Bool, true}
+use mathlib.Core.List.{List, []}
 use Prim.Native.Nat.{ℕ, _<_}
-use native.Mathlib.Omega.{arith}
-use lib.Dec.{T, leb, leb→le, nleb→lt}
-use lib.ListN.{length, set}
+use lib.ListN.{length}
 use Rattle.layers.specs.Answer as paper
 use Rattle.layers.specs.Answer.{given, nothing, refused}
-use Rattle.tables.specs.declared.symbol.Symbol.{Symbol}
-use Rattle.tables.specs.Rows.{readFrom, gathered}
-use Rattle.tables.proofs.Columns.{swapped}
-use Rattle.tables.proofs.Ordered.{too-long}
+use Rattle.columns.specs.declared.symbol.Symbol.{Symbol}
+use Rattle.columns.specs.Rows.{readFrom}
+use Rattle.tables.specs.Gathered.{gathered}
+use Rattle.tables.proofs.Gathering.{swapped}
+use Rattle.orders.proofs.Ordered.{too-long}
 use Rattle.answers.specs.Flat.{notAccepted}
-use Rattle.symbols.specs.Changes.{offeredCheck, placeOf, unless, wayOf, nowhere, outcomeBy, outcome, changeBy, changeOf, storeOf}
-use Rattle.symbols.specs.declared.ways.Operation.{Operation}
-use Rattle.symbols.specs.declared.ways.Way.{Way}
-use Rattle.symbols.specs.declared.ways.Way.the-variants as way
-use Rattle.symbols.specs.declared.change.Change.{Change}
-use Rattle.symbols.proofs.Decided.{found-in, new-in}
+use Rattle.ways.specs.Ways.{offeredCheck, placeOf, unless, wayOf}
+use Rattle.changes.specs.Changes.{nowhere, outcomeBy, changeBy, changeOf, storeOf}
+use Rattle.ways.specs.declared.operations.Operation.{Operation}
+use Rattle.ways.specs.declared.slot.Way.{Way}
+use Rattle.ways.specs.declared.slot.Way.the-variants as way
+use Rattle.changes.specs.declared.change.Change.{Change}
+use Rattle.lookups.specs.Gets.{got, typeIn, typeOf}
+use Rattle.lookups.specs.declared.get.Got.{Got}
+use Rattle.lookups.specs.declared.get.Got.the-variants as got′
 
 module _ (op : Operation) (id : ℕ) (authority : Bool) (place mark : ℕ) (offered : List ℕ) (table : List Symbol) (store : List ℕ) where
   -- a table that is too long is refused, whatever it holds
@@ -63,47 +65,18 @@ module _ (op : Operation) (id : ℕ) (authority : Bool) (place mark : ℕ) (offe
       ≡ storeOf op id authority place mark offered table store
   store-same = swapped table (λ l. storeOf op id authority place mark offered l store) store long-store
 
-  -- and that is the outcome
-  abbrev by : Way → Change
-  by w = changeBy w op id authority place mark offered table store
+-- get
+module _ (id : ℕ) (table : List Symbol) (store : List ℕ) where
+  long-got : (authority : Bool) (l : List Symbol) → length l ≡ length table → 128 < length l → got id authority l store ≡ got′.Refused 12 0
+  unfolding got
+  long-got authority l e h = rw (too-long l store h)
 
-  answer-by : (w : Way) → by w .answer ≡ outcomeBy w op id authority place mark offered table store .answer
-  answer-by (way.Refused n p) = refl
-  answer-by (way.Found k) = refl
-  answer-by (way.Free k) = refl
+  pub got-same : (authority : Bool) → got id authority (readFrom (gathered table) 0 (length table)) store ≡ got id authority table store
+  got-same authority = swapped table (λ l. got id authority l store) (got′.Refused 12 0) (long-got authority)
 
-  pub answer-is : (r : Change) → r ≡ changeOf op id authority place mark offered table store →
-      r .answer ≡ outcome op id authority place mark offered table store .answer
-  unfolding changeOf outcome
-  answer-is r e = ap (λ (c : Change). c .answer) e ∙ answer-by (wayOf op id offered table store)
+  long-type : (l : List Symbol) → length l ≡ length table → 128 < length l → typeOf id l store ≡ []
+  unfolding typeOf
+  long-type l e h = ap (λ (x : Got). typeIn x l store) (long-got true l e h)
 
-  pub store-is : storeOf op id authority place mark offered table store ≡ outcome op id authority place mark offered table store .store
-  unfolding storeOf outcome
-  store-is = refl
-
-  inside-or : (w : Way) → wayOf op id offered table store ≡ w → T (leb (length table) (by w .slot)) →
-      table ≡ outcomeBy w op id authority place mark offered table store .table
-  inside-or (way.Refused n p) e out = refl
-  inside-or (way.Found k) e out =
-      absurd (omega (arith, leb→le (length table) k out, found-in op id offered table store k e .below))
-  inside-or (way.Free k) e out =
-      absurd (omega (arith, leb→le (length table) k out, new-in op id offered table store k e .below))
-
-  pub table-kept : (r : Change) → r ≡ changeOf op id authority place mark offered table store → T (leb (length table) (r .slot)) →
-      table ≡ outcome op id authority place mark offered table store .table
-  unfolding changeOf outcome
-  table-kept r e out =
-      inside-or (wayOf op id offered table store) refl (subst (λ (c : Change). T (leb (length table) (c .slot))) e out)
-
-  set-by : (w : Way) → T (not (leb (length table) (by w .slot))) →
-      set table (by w .slot) (by w .symbol) ≡ outcomeBy w op id authority place mark offered table store .table
-  set-by (way.Refused n p) inside = absurd (omega (arith, nleb→lt (length table) (length table) inside))
-  set-by (way.Found k) inside = refl
-  set-by (way.Free k) inside = refl
-
-  pub table-set : (r : Change) → r ≡ changeOf op id authority place mark offered table store → T (not (leb (length table) (r .slot))) →
-      set table (r .slot) (r .symbol) ≡ outcome op id authority place mark offered table store .table
-  unfolding changeOf outcome
-  table-set r e inside =
-      ap (λ (c : Change). set table (c .slot) (c .symbol)) e
-      ∙ set-by (wayOf op id offered table store) (subst (λ (c : Change). T (not (leb (length table) (c .slot)))) e inside)
+  pub type-same : typeOf id (readFrom (gathered table) 0 (length table)) store ≡ typeOf id table store
+  type-same = swapped table (λ l. typeOf id l store) [] long-type

@@ -1,83 +1,10 @@
 use answers::Answer;
-use answers::accepted;
-use answers::refused;
-use tables::Symbol;
+use columns::Symbol;
+use lookups::get_among;
+use lookups::type_among;
 use tables::gather;
-use tables::in_order;
-use tables::row;
-use tables::slot_of;
 ghost use mathlib.Core.Path.{_≡_};
-ghost use Rattle.tables.specs.Rows.{readFrom};
-ghost use Rattle.symbols.specs.Gets as rules;
-
-// What stands under a name: nothing, a type in a slot, or poison with its mark.
-pub(crate) enum Got {
-    Absent,
-    Typed(usize),
-    Poisoned(u64),
-    Refused { number: u64, place: u64 },
-}
-
-fn mark_for(authority: bool, mark: u64) -> u64
-    ensures { λ r. ⌜ r ≡ rules.markFor authority mark ⌝ }
-{
-    if authority { mark } else { 0 }
-}
-
-fn look(flat: &[u64; 768], n: usize, store: &[u64], id: u32, authority: bool) -> Got
-    ensures { λ r. ⌜ r ≡ rules.got id authority (readFrom (now (flat .entry)) 0 n) (now (store .entry)) ⌝ }
-{
-    if !in_order(flat, n, store) {
-        return Got::Refused {
-            number: 12,
-            place: 0,
-        };
-    }
-    let at = slot_of(flat, n, id);
-    if at >= n {
-        return Got::Absent;
-    }
-    let s = row(flat, at, id);
-    if s.state == 1 {
-        Got::Typed(at)
-    } else {
-        Got::Poisoned(mark_for(authority, s.mark))
-    }
-}
-
-// The slot or the mark goes where it was lent; without one, what stood there stays.
-fn tell(got: Got, found: &mut u64) -> Answer
-    ensures answer { λ r. ⌜ r ≡ rules.told got ⌝ }
-    ensures written { λ _. ⌜ now (found .exit) ≡ rules.foundAfter got (now (found .entry)) ⌝ }
-{
-    match got {
-        Got::Absent => accepted(0),
-        Got::Typed(at) => {
-            *found = at as u64;
-            accepted(1)
-        }
-        Got::Poisoned(mark) => {
-            *found = mark;
-            accepted(2)
-        }
-        Got::Refused { number, place } => refused(number, place),
-    }
-}
-
-fn get_among(
-    flat: [u64; 768],
-    n: usize,
-    store: &[u64],
-    id: u32,
-    authority: bool,
-    found: &mut u64,
-) -> Answer
-    ensures { λ r. ⌜ (r ≡ rules.told (rules.got id authority (readFrom flat 0 n) (now (store .entry))))
-        × (now (found .exit) ≡ rules.foundAfter (rules.got id authority (readFrom flat 0 n) (now (store .entry))) (now (found .entry))) ⌝ }
-{
-    let got = look(&flat, n, store, id, authority);
-    tell(got, found)
-}
+ghost use Rattle.lookups.specs.Gets as rules;
 
 // What a lent table has under a name.
 pub fn get_symbol(
@@ -92,38 +19,6 @@ pub fn get_symbol(
 {
     let flat = gather(table);
     get_among(flat, table.len(), store, id, authority, found)
-}
-
-// The words of the type of a slot, in the store itself; no words where they are not there.
-pub fn stored_type(store: &[u64], slot: usize, layers: u64) -> &[u64]
-    ensures { λ r. ⌜ now r ≡ rules.storedType (now (store .entry)) slot layers ⌝ }
-{
-    if layers > 16 {
-        return &store[..0];
-    }
-    if slot >= store.len() / 48 {
-        return &store[..0];
-    }
-    let from = slot * 48;
-    let end = from + (layers as usize) * 3;
-    &store[from..end]
-}
-
-fn type_among(flat: [u64; 768], n: usize, store: &[u64], id: u32) -> &[u64]
-    ensures { λ r. ⌜ now r ≡ rules.typeOf id (readFrom flat 0 n) (now (store .entry)) ⌝ }
-{
-    match look(&flat, n, store, id, true) {
-        Got::Absent => &store[..0],
-        Got::Typed(at) => {
-            let s = row(&flat, at, id);
-            stored_type(store, at, s.layers)
-        }
-        Got::Poisoned(_) => &store[..0],
-        Got::Refused {
-            number: _,
-            place: _,
-        } => &store[..0],
-    }
 }
 
 // The type that a lent table has under a name, as the part of the store that holds it.

@@ -1,30 +1,11 @@
-use crate::symbol::Symbol;
+use columns::Symbol;
+use columns::put_row;
 ghost use mathlib.Core.Path.{_≡_};
-ghost use Rattle.tables.specs.Rows as rows;
-
-fn bit(b: bool) -> u64
-    ensures { λ r. ⌜ r ≡ rows.bit b ⌝ }
-{
-    if b { 1 } else { 0 }
-}
-
-// Writes a record's six words into the six columns, at its row, if there is one.
-fn put_row(flat: &mut [u64; 768], i: usize, s: Symbol)
-    ensures { λ _. ⌜ now (flat .exit) ≡ rows.putRow (now (flat .entry)) i s ⌝ }
-{
-    if i < 128 {
-        flat[i] = s.id as u64;
-        flat[i + 128] = bit(s.authority);
-        flat[i + 256] = s.place;
-        flat[i + 384] = s.state;
-        flat[i + 512] = s.layers;
-        flat[i + 640] = s.mark;
-    }
-}
+ghost use Rattle.tables.specs.Gathered.{gathered};
 
 // The columns of a table: ids, authorities, places, states, layer counts, marks, 128 words each.
 pub fn gather(table: &[Symbol]) -> [u64; 768]
-    ensures { λ r. ⌜ r ≡ rows.gathered (now (table .entry)) ⌝ }
+    ensures { λ r. ⌜ r ≡ gathered (now (table .entry)) ⌝ }
 {
     let mut flat = [0u64; 768];
     if table.len() > 128 {
@@ -37,29 +18,4 @@ pub fn gather(table: &[Symbol]) -> [u64; 768]
         i += 1;
     }
     flat
-}
-
-// The record of a row, under an id; past the last row, a free one.
-pub fn row(flat: &[u64; 768], i: usize, id: u32) -> Symbol
-    ensures { λ r. ⌜ r ≡ rows.rowUnder (now (flat .entry)) i id ⌝ }
-{
-    if i < 128 {
-        Symbol {
-            id,
-            authority: flat[i + 128] == 1,
-            place: flat[i + 256],
-            state: flat[i + 384],
-            layers: flat[i + 512],
-            mark: flat[i + 640],
-        }
-    } else {
-        Symbol {
-            id,
-            authority: false,
-            place: 0,
-            state: 0,
-            layers: 0,
-            mark: 0,
-        }
-    }
 }

@@ -1,7 +1,7 @@
 use answers::Answer;
+use columns::Symbol;
 use planner::Report;
 use planner::autoderef;
-use tables::Symbol;
 use walks::walk;
 ghost use mathlib.Core.Path.{_≡_};
 ghost use lib.ListN.{length};

@@ -1,14 +1,17 @@
 use answers::Answer;
-use symbols::Operation;
-use symbols::change_symbol;
+use columns::Symbol;
+use symbols::forward_declare_symbol;
 use symbols::get_symbol;
-use symbols::put_nothing;
-use tables::Symbol;
+use symbols::poison_symbol;
+use symbols::put_symbol;
+use ways::Declared;
+use ways::Offer;
+use ways::Operation;
 ghost use mathlib.Core.Path.{_≡_};
 ghost use mathlib.Core.List.{[]};
 ghost use Rattle.updates.specs.Lone as rules;
-ghost use Rattle.symbols.specs.Changes as changes;
-ghost use Rattle.symbols.specs.Gets as gets;
+ghost use Rattle.changes.specs.Changes as changes;
+ghost use Rattle.lookups.specs.Gets as gets;
 
 #[no_mangle]
 pub extern "C" fn tj_update_symbol(
@@ -28,15 +31,27 @@ pub extern "C" fn tj_update_symbol(
 
 #[no_mangle]
 pub extern "C" fn tj_put_nothing(
-    table: &[Symbol],
-    store: &[u64],
+    table: &mut [Symbol],
+    store: &mut [u64],
     id: u32,
     authority: bool,
     place: u64,
 ) -> Answer
-    ensures { λ r. ⌜ r ≡ gets.nothingPut (now (table .entry)) (now (store .entry)) ⌝ }
+    ensures { λ r. ⌜ (r ≡ changes.outcome Operation.PutNothing id authority place 0 [] (now (table .entry)) (now (store .entry)) .answer)
+        × (now (table .exit) ≡ changes.outcome Operation.PutNothing id authority place 0 [] (now (table .entry)) (now (store .entry)) .table)
+        × (now (store .exit) ≡ changes.outcome Operation.PutNothing id authority place 0 [] (now (table .entry)) (now (store .entry)) .store) ⌝ }
 {
-    put_nothing(table, store)
+    let none = [0u64; 1];
+    put_symbol(
+        table,
+        store,
+        Offer::Nothing,
+        id,
+        authority,
+        place,
+        0,
+        &none[..0],
+    )
 }
 
 #[no_mangle]
@@ -52,16 +67,7 @@ pub extern "C" fn tj_put_type(
         × (now (table .exit) ≡ changes.outcome Operation.PutType id authority place 0 (now (offered .entry)) (now (table .entry)) (now (store .entry)) .table)
         × (now (store .exit) ≡ changes.outcome Operation.PutType id authority place 0 (now (offered .entry)) (now (table .entry)) (now (store .entry)) .store) ⌝ }
 {
-    change_symbol(
-        table,
-        store,
-        Operation::PutType,
-        id,
-        authority,
-        place,
-        0,
-        offered,
-    )
+    put_symbol(table, store, Offer::Type, id, authority, place, 0, offered)
 }
 
 #[no_mangle]
@@ -77,17 +83,7 @@ pub extern "C" fn tj_put_poison(
         × (now (table .exit) ≡ changes.outcome Operation.PutPoison id authority place mark [] (now (table .entry)) (now (store .entry)) .table)
         × (now (store .exit) ≡ changes.outcome Operation.PutPoison id authority place mark [] (now (table .entry)) (now (store .entry)) .store) ⌝ }
 {
-    let none = [0u64; 1];
-    change_symbol(
-        table,
-        store,
-        Operation::PutPoison,
-        id,
-        authority,
-        place,
-        mark,
-        &none[..0],
-    )
+    poison_symbol(table, store, id, authority, place, mark)
 }
 
 #[no_mangle]
@@ -103,10 +99,10 @@ pub extern "C" fn tj_forward_declare_type(
         × (now (table .exit) ≡ changes.outcome Operation.ForwardType id authority place 0 (now (offered .entry)) (now (table .entry)) (now (store .entry)) .table)
         × (now (store .exit) ≡ changes.outcome Operation.ForwardType id authority place 0 (now (offered .entry)) (now (table .entry)) (now (store .entry)) .store) ⌝ }
 {
-    change_symbol(
+    forward_declare_symbol(
         table,
         store,
-        Operation::ForwardType,
+        Declared::Type,
         id,
         authority,
         place,
@@ -129,10 +125,10 @@ pub extern "C" fn tj_forward_declare_poison(
         × (now (store .exit) ≡ changes.outcome Operation.ForwardPoison id authority place mark [] (now (table .entry)) (now (store .entry)) .store) ⌝ }
 {
     let none = [0u64; 1];
-    change_symbol(
+    forward_declare_symbol(
         table,
         store,
-        Operation::ForwardPoison,
+        Declared::Poison,
         id,
         authority,
         place,

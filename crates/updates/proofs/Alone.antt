@@ -12,8 +12,8 @@ use Rattle.layers.specs.Answer.{given, refused, ofChecked}
 use Rattle.layers.specs.Check.{checkOf}
 use Rattle.layers.specs.declared.answers.Checked.{Checked}
 use Rattle.layers.specs.declared.answers.Checked.the-variants.{Good, Refused}
-use Rattle.tables.specs.Order.{isGood, knownStates, allFree, takenFirst, taken, hasId, repeats, passes, allPass, inOrder}
-use Rattle.tables.specs.declared.symbol.Symbol.{Symbol}
+use Rattle.orders.specs.Order.{isGood, knownStates, allFree, takenFirst, taken, hasId, repeats, passes, allPass, inOrder}
+use Rattle.columns.specs.declared.symbol.Symbol.{Symbol}
 use Rattle.answers.specs.declared.flat.Answer.{Answer}
 use Rattle.answers.specs.Flat.{notAccepted}
 use Rattle.updates.specs.Updates.{storedOf, updated, wordsAfter}

@@ -6,7 +6,7 @@ use mathlib.Core.List.{List}
 use Prim.Native.Nat.{ℕ}
 use lib.Dec.{eqb}
 use Rattle.layers.specs.Layers.{layers}
-use Rattle.tables.specs.declared.symbol.Symbol.{Symbol}
+use Rattle.columns.specs.declared.symbol.Symbol.{Symbol}
 use Rattle.answers.specs.declared.flat.Answer.{Answer}
 use Rattle.updates.specs.Updates.{lineOf, storedOf, lineAt, recordBy, answerBy, wordsBy, updated, wordsAfter}
 use Rattle.updates.specs.declared.lines.Line.{Line}

@@ -8,7 +8,7 @@ use Rattle.layers.specs.Answer.{ofChecked}
 use Rattle.layers.specs.Check.{checkOf}
 use Rattle.layers.specs.declared.answers.Checked.{Checked}
 use Rattle.layers.specs.declared.answers.Checked.the-variants.{Good, Refused}
-use Rattle.tables.specs.Order.{isGood}
+use Rattle.orders.specs.Order.{isGood}
 
 module _ (ws : List ℕ) (x : Checked) (e : ofChecked x ≡ checkOf ws) where
   pub fails : (n p : ℕ) → x ≡ Refused n p → false ≡ isGood (checkOf ws)

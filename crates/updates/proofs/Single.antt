@@ -14,7 +14,7 @@ use denote.Ref.{now}
 use denote.Triple.Entry.{Args}
 use denote.Triple.Clauses.{AtExit}
 use borrow.Fn.Kinds.{Dens, resT, endedOf}
-use Rattle.tables.proofs.Single.{Walked}
+use Rattle.columns.proofs.Single.{Walked}
 use Rattle.updates.proofs.record.update.Kinds as update-kinds
 use Rattle.updates.proofs.record.update.Reads as update
 use Rattle.updates.proofs.lone.update_lone.Kinds as update-lone-kinds

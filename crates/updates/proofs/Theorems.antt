@@ -20,9 +20,9 @@ use Rattle.relations.proofs.Theorems.{identical-reflexive}
 use Rattle.coercions.specs.Coercions.{coerces}
 use Rattle.buffers.specs.Written.{written}
 use Rattle.buffers.proofs.Writing.{fits, length-written}
-use Rattle.tables.specs.Order as tables
-use Rattle.tables.specs.Order.{isGood}
-use Rattle.tables.specs.declared.symbol.Symbol.{Symbol}
+use Rattle.orders.specs.Order as order
+use Rattle.orders.specs.Order.{isGood}
+use Rattle.columns.specs.declared.symbol.Symbol.{Symbol}
 use Rattle.answers.specs.Flat.{accepted}
 use Rattle.updates.specs.Updates.{lineOf, answerBy, typed, recordBy, wordsBy, storedOf, lineAt, updated, wordsAfter}
 use Rattle.updates.specs.Lone.{loneInOrder, loneCheck, unlessRefused, loneUpdated, keptWhereRefused, loneWordsAfter}
@@ -199,12 +199,12 @@ module _ (s : Symbol) (ws : List ℕ) (id : ℕ) (authority : Bool) (place : ℕ
     all = by-count (eqb (length ws) 48) refl (rw (one s ws) at o)
       where
         by-count : (l : Bool) → eqb (length ws) 48 ≡ l →
-            cond l (cond (eqb (s .state) 0) false (leb (s .state) 2 && tables.passes (s .state) (s .layers) ws)) false ≡ true → length ws ≡ 48
+            cond l (cond (eqb (s .state) 0) false (leb (s .state) 2 && order.passes (s .state) (s .layers) ws)) false ≡ true → length ws ≡ 48
         by-count true i f = eqb-true (length ws) 48 i
         by-count false i f = absurd (false≢true f)
 
     in-order-typed : (i : ℕ) (a : Bool) (p : ℕ) → loneInOrder (typed i a p offered) (written offered ws) ≡ true
-    unfolding tables.passes
+    unfolding order.passes
     in-order-typed i a p =
         let c = counted offered e in
         let few : length offered ≤ length ws = omega (arith, c .0, all) in

@@ -5,8 +5,9 @@ use Prim.Native.Nat.{ℕ}
 use Rattle.layers.specs.Answer as paper
 use Rattle.layers.specs.Answer.{given, nothing, refused, next}
 use Rattle.layers.specs.Check.{checkOf}
-use Rattle.tables.specs.Order.{free, inOrder}
-use Rattle.tables.specs.declared.symbol.Symbol.{Symbol}
+use Rattle.columns.specs.Rows.{free}
+use Rattle.orders.specs.Order.{inOrder}
+use Rattle.columns.specs.declared.symbol.Symbol.{Symbol}
 use Rattle.answers.specs.Flat.{notAccepted}
 use Rattle.updates.specs.Updates.{updated, wordsAfter}
 use Rattle.updates.specs.declared.record.Updated.{Updated}

@@ -9,7 +9,7 @@ use Rattle.forms.specs.Formed.{wellFormed}
 use Rattle.relations.specs.Relations.{identical, declared, concretization}
 use Rattle.coercions.specs.Coercions.{coerces}
 use Rattle.buffers.specs.Written.{written}
-use Rattle.tables.specs.declared.symbol.Symbol.{Symbol}
+use Rattle.columns.specs.declared.symbol.Symbol.{Symbol}
 use Rattle.answers.specs.declared.flat.Answer.{Answer}
 use Rattle.answers.specs.Flat.{accepted, notAccepted}
 use Rattle.updates.specs.declared.lines.Line.{Line}

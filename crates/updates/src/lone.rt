@@ -3,12 +3,12 @@ use crate::record::stored;
 use crate::record::update;
 use answers::Answer;
 use answers::refused;
+use columns::Symbol;
 use layers::Checked;
 use layers::check_type;
-use tables::Symbol;
 ghost use mathlib.Core.Path.{_≡_};
 ghost use Rattle.layers.specs.Check.{checkOf};
-ghost use Rattle.tables.specs.Order.{isGood};
+ghost use Rattle.orders.specs.Order.{isGood};
 ghost use Rattle.updates.specs.Lone as rules;
 
 // Whether words pass the checks 1 to 3.

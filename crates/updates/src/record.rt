@@ -4,7 +4,7 @@ use answers::Answer;
 use answers::accepted;
 use answers::refused;
 use buffers::write_words;
-use tables::Symbol;
+use columns::Symbol;
 ghost use mathlib.Core.Path.{_≡_};
 ghost use Rattle.updates.specs.Updates as rules;
 

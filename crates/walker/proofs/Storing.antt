@@ -13,12 +13,13 @@ use borrow.Author.Tests.{lt-ltb, le-ltb, ltb-false, eq-eqb, ne-eqb, eqb-true}
 use Rattle.layers.specs.Layers.{layers}
 use Rattle.layers.specs.Answer.{given, refused}
 use Rattle.layers.specs.Check.{checkOf, badLayer, misplaced, unless}
-use Rattle.tables.specs.Rows.{vacant, rowAt, readFrom}
-use Rattle.tables.specs.Order.{slotIn, slotFor, typed, isGood, passes, allPass, inOrder}
-use Rattle.tables.specs.declared.symbol.Symbol.{Symbol}
-use Rattle.tables.proofs.Columns.{getD-read, length-read}
-use Rattle.tables.proofs.Sentences.{slot-is}
-use Rattle.tables.proofs.Ordered.{ordered}
+use Rattle.columns.specs.Rows.{vacant, rowAt, readFrom, typed}
+use Rattle.columns.specs.Search.{slotIn, slotFor}
+use Rattle.orders.specs.Order.{isGood, passes, allPass, inOrder}
+use Rattle.columns.specs.declared.symbol.Symbol.{Symbol}
+use Rattle.columns.proofs.Reading.{getD-read, length-read}
+use Rattle.columns.proofs.Searching.{slot-is}
+use Rattle.orders.proofs.Ordered.{ordered}
 use Rattle.walker.specs.Members.{wordsAt, memberWords, memberIn}
 use Rattle.walker.specs.Moves.{Whole}
 

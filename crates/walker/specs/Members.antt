@@ -5,9 +5,9 @@ use Prim.Native.Nat.{ℕ, _*_}
 use lib.Dec.{eqb, ltb}
 use lib.ListN.{take, drop, getD}
 use Rattle.layers.specs.Layers.{Layer, layers}
-use Rattle.tables.specs.declared.symbol.Symbol.{Symbol}
-use Rattle.tables.specs.Rows.{vacant, readFrom}
-use Rattle.tables.specs.Order.{typed, slotFor}
+use Rattle.columns.specs.declared.symbol.Symbol.{Symbol}
+use Rattle.columns.specs.Rows.{vacant, readFrom, typed}
+use Rattle.columns.specs.Search.{slotFor}
 use Rattle.steps.specs.StepKind as of-step
 use Rattle.walker.specs.Walker as walker
 use Rattle.walker.specs.Walker.{Stored}

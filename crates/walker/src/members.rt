@@ -1,5 +1,5 @@
+use columns::slot_with;
 use steps::StepKind;
-use tables::slot_with;
 ghost use mathlib.Core.Path.{_≡_};
 ghost use Prim.Native.Nat.{_*_};
 ghost use lib.ListN.{take, drop};

@@ -9,8 +9,8 @@ use Rattle.layers.specs.Layers.{Layer, layer, layers, spelled}
 use Rattle.layers.specs.Answer.{Answer, given, nothing, refused, next}
 use Rattle.layers.specs.Check.{checkOf}
 use Rattle.buffers.specs.Written.{written}
-use Rattle.tables.specs.declared.symbol.Symbol.{Symbol}
-use Rattle.tables.specs.Order.{inOrder}
+use Rattle.columns.specs.declared.symbol.Symbol.{Symbol}
+use Rattle.orders.specs.Order.{inOrder}
 use Rattle.steps.specs.Steps.{Step, steps, stepsAnswer}
 use Rattle.walker.specs.Walker.{Where, at, stuck, Stored, act}
 use Rattle.walker.specs.Members.{members}

@@ -1,6 +1,6 @@
 use crate::taking::walk_among;
 use answers::Answer;
-use tables::Symbol;
+use columns::Symbol;
 use tables::gather;
 ghost use mathlib.Core.Path.{_≡_};
 ghost use lib.ListN.{length};

@@ -3,10 +3,10 @@ use answers::Answer;
 use answers::refused;
 use layers::Checked;
 use layers::check_type;
+use orders::in_order;
 use parts::inner;
 use parts::outer;
 use steps::check_steps;
-use tables::in_order;
 use walker::asked_member;
 use walker::go;
 use walker::is_desliced;
@@ -17,8 +17,8 @@ ghost use mathlib.Core.Path.{_≡_};
 ghost use mathlib.Core.Bool.{true};
 ghost use Prim.Native.Nat.{_%_};
 ghost use lib.ListN.{length};
-ghost use Rattle.tables.specs.Rows.{readFrom};
-ghost use Rattle.tables.specs.Order.{inOrder};
+ghost use Rattle.columns.specs.Rows.{readFrom};
+ghost use Rattle.orders.specs.Order.{inOrder};
 ghost use Rattle.answers.specs.Flat.{flat};
 ghost use Rattle.walker.specs.Moves.{Whole};
 ghost use Rattle.walks.specs.Walked as rules;
@@ -80,7 +80,7 @@ fn walk_ordered<'a>(
 }
 
 // The walk with a table in columns.
-pub(crate) fn walk_among<'a>(
+pub fn walk_among<'a>(
     columns: [u64; 768],
     n: usize,
     known: &'a [u64],

@@ -2,7 +2,7 @@ use borrow.Author.Needs.{needs}
 use Rattle.planner.proofs.plan.plan_among.Statement.{statement}
 use Rattle.planner.proofs.plan.plan_among.Tie as tie
 use denote.Ref.{now}
-use Rattle.tables.specs.Rows.{readFrom}
+use Rattle.columns.specs.Rows.{readFrom}
 use Rattle.planner.proofs.Asking.{known-whole, target-whole, few-rounds, question-refused, question-passed}
 
 pub plan-among-spec : {M : Type 1} → statement M

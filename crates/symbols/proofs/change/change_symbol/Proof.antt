@@ -49,11 +49,12 @@ use denote.Triple.Table.{entered, cited}
 use denote.Triple.Walked.{says, Stays, stay-slice, stay-none, stay-none-slice, gave-slice, walkOf, AllGo, goes-slice, goes-none, goes-none-slice, goes-gave-slice, Walks, ends-at, walked, walk-meets}
 use denote.Exit.{yes}
 use denote.Signature.{plain}
-use Rattle.tables.specs.declared.symbol.Symbol.{Symbol}
-use Rattle.tables.specs.Rows.{vacant, readFrom, gathered}
+use Rattle.columns.specs.declared.symbol.Symbol.{Symbol}
+use Rattle.columns.specs.Rows.{vacant, readFrom}
+use Rattle.tables.specs.Gathered.{gathered}
 use Rattle.tables.proofs.Guard.{holds, fails, by-test, guarded}
-use Rattle.tables.proofs.symbol.Symbol as R
-use Rattle.tables.proofs.symbol.Symbol.Laws as R′
+use Rattle.columns.proofs.symbol.Symbol as R
+use Rattle.columns.proofs.symbol.Symbol.Laws as R′
 use Rattle.tables.proofs.gather as gather
 use Rattle.tables.proofs.gather.Symbol as gather-def
 use Rattle.tables.proofs.gather.Symbol.{name as #gather}
@@ -61,18 +62,19 @@ use Rattle.tables.proofs.gather.Met as gather-thm
 use Rattle.answers.specs.declared.flat.Answer.{Answer}
 use Rattle.answers.proofs.flat.Answer as B
 use Rattle.answers.proofs.flat.Answer.Laws as B′
-use Rattle.symbols.specs.Changes.{outcome, changeOf, storeOf}
-use Rattle.symbols.specs.declared.ways.Operation.{Operation}
-use Rattle.symbols.specs.declared.change.Change.{Change}
-use Rattle.symbols.proofs.Whole.{change-same, store-same, answer-is, store-is, table-kept, table-set}
-use Rattle.symbols.proofs.ways.Operation as O
-use Rattle.symbols.proofs.ways.Operation.Laws as O′
-use Rattle.symbols.proofs.change.Change as N
-use Rattle.symbols.proofs.change.Change.Laws as N′
-use Rattle.symbols.proofs.change.choose as choose
-use Rattle.symbols.proofs.change.choose.Symbol as choose-def
-use Rattle.symbols.proofs.change.choose.Symbol.{name as #choose}
-use Rattle.symbols.proofs.change.choose.Met as choose-thm
+use Rattle.changes.specs.Changes.{outcome, changeOf, storeOf}
+use Rattle.ways.specs.declared.operations.Operation.{Operation}
+use Rattle.changes.specs.declared.change.Change.{Change}
+use Rattle.changes.proofs.Outcomes.{answer-is, store-is, table-kept, table-set}
+use Rattle.symbols.proofs.Whole.{change-same, store-same}
+use Rattle.ways.proofs.operations.Operation as O
+use Rattle.ways.proofs.operations.Operation.Laws as O′
+use Rattle.changes.proofs.change.Change as N
+use Rattle.changes.proofs.change.Change.Laws as N′
+use Rattle.changes.proofs.choose as choose
+use Rattle.changes.proofs.choose.Symbol as choose-def
+use Rattle.changes.proofs.choose.Symbol.{name as #choose}
+use Rattle.changes.proofs.choose.Met as choose-thm
 use Rattle.symbols.proofs.change.change_symbol.Key.{name as #change-symbol}
 use Rattle.symbols.proofs.change.change_symbol as f
 use Rattle.symbols.proofs.change.change_symbol.Statement as stated
@@ -435,4 +437,4 @@ change-symbol-spec 𝓤 H 𝓜 𝓖 𝓡 =
     (tables 𝓤 H 𝓜 𝓡 code.env .C) (tables 𝓤 H 𝓜 𝓡 code.env .Λ) #change-symbol code.function (code.unfolded 𝓤 H 𝓜 𝓡)
     (meets 𝓤 H (𝓖 .A) (givenOf 𝓤 H 𝓜 𝓖) (𝓜 .mem) (𝓡 .run) (tablesOf 𝓤 H 𝓜 (tables 𝓤 H 𝓜 𝓡 code.env))
     (cited 𝓤 H (Gather 𝓤 H (𝓖 .A) (𝓜 .mem) (𝓡 .run)) 𝓜 𝓡 code.env #gather gather-def.routine code.calls-tables·gather (gather-thm.met 𝓤 H 𝓜 𝓖 𝓡))
-    (cited 𝓤 H (Choose 𝓤 H (𝓖 .A) (𝓜 .mem) (𝓡 .run)) 𝓜 𝓡 code.env #choose choose-def.routine code.calls-symbols·change·choose (choose-thm.met 𝓤 H 𝓜 𝓖 𝓡)))
+    (cited 𝓤 H (Choose 𝓤 H (𝓖 .A) (𝓜 .mem) (𝓡 .run)) 𝓜 𝓡 code.env #choose choose-def.routine code.calls-changes·choose (choose-thm.met 𝓤 H 𝓜 𝓖 𝓡)))

@@ -40,9 +40,10 @@ use denote.Triple.Table.{entered, cited}
 use denote.Triple.Walked.{says, Stays, stay-none, stay-none-slice, gave-ref, walkOf, goes-none, goes-none-slice, goes-gave-ref, Walks, ends-at, walked, walk-meets}
 use denote.Exit.{yes}
 use denote.Signature.{plain}
-use Rattle.tables.specs.declared.symbol.Symbol.{Symbol}
-use Rattle.tables.specs.Rows.{readFrom, gathered}
-use Rattle.tables.proofs.symbol.Symbol as R
+use Rattle.columns.specs.declared.symbol.Symbol.{Symbol}
+use Rattle.columns.specs.Rows.{readFrom}
+use Rattle.tables.specs.Gathered.{gathered}
+use Rattle.columns.proofs.symbol.Symbol as R
 use Rattle.tables.proofs.gather as gather
 use Rattle.tables.proofs.gather.Symbol as gather-def
 use Rattle.tables.proofs.gather.Symbol.{name as #gather}
@@ -50,13 +51,13 @@ use Rattle.tables.proofs.gather.Met as gather-thm
 use Rattle.answers.specs.declared.flat.Answer.{Answer}
 use Rattle.answers.proofs.flat.Answer as B
 use Rattle.answers.proofs.flat.Answer.Laws as B′
-use Rattle.symbols.specs.declared.get.Got.{Got}
-use Rattle.symbols.specs.Gets.{got, told, foundAfter}
-use Rattle.symbols.proofs.Found.{got-same}
-use Rattle.symbols.proofs.get.get_among as core
-use Rattle.symbols.proofs.get.get_among.Symbol as core-def
-use Rattle.symbols.proofs.get.get_among.Symbol.{name as #get-among}
-use Rattle.symbols.proofs.get.get_among.Met as core-thm
+use Rattle.lookups.specs.declared.get.Got.{Got}
+use Rattle.lookups.specs.Gets.{got, told, foundAfter}
+use Rattle.symbols.proofs.Whole.{got-same}
+use Rattle.lookups.proofs.get_among as core
+use Rattle.lookups.proofs.get_among.Symbol as core-def
+use Rattle.lookups.proofs.get_among.Symbol.{name as #get-among}
+use Rattle.lookups.proofs.get_among.Met as core-thm
 use Rattle.symbols.proofs.get.get_symbol.Key.{name as #get-symbol}
 use Rattle.symbols.proofs.get.get_symbol as f
 use Rattle.symbols.proofs.get.get_symbol.Statement as stated
@@ -137,7 +138,7 @@ module _ {M : Type 1} (𝓤 : URA M) (H : Heap 𝓤) (A : Atoms 𝓤) (W : Given
 
   on-table : (ws : List ℕ) → ws ≡ gathered ys → (r : Answer) (z : ℕ) → Said (readFrom ws 0 n) r z → Said ys r z
   on-table ws e r z h =
-      let same = ap (λ (l : List ℕ). got d t (readFrom l 0 n) (x₁ .now)) e ∙ got-same ys (x₁ .now) d t in
+      let same = ap (λ (l : List ℕ). got d t (readFrom l 0 n) (x₁ .now)) e ∙ got-same d ys (x₁ .now) t in
       (h .0 ∙ ap told same, h .1 ∙ ap (λ (g : Got). foundAfter g (x₂ .now)) same)
 
   exits : (r : Answer) (z : ℕ) → Is B.the-row r (B′.lowered r ∷ []) → Said ys r z → ent 𝓤 (⋆ 𝓤 H A (TT ∷ ‵ Own ∷ ‵ Own₁ ∷ ‵ (Fin z) ∷ [])) (Post (B′.lowered r))
@@ -282,4 +283,4 @@ get-symbol-spec 𝓤 H 𝓜 𝓖 𝓡 =
     (tables 𝓤 H 𝓜 𝓡 code.env .C) (tables 𝓤 H 𝓜 𝓡 code.env .Λ) #get-symbol code.function (code.unfolded 𝓤 H 𝓜 𝓡)
     (meets 𝓤 H (𝓖 .A) (givenOf 𝓤 H 𝓜 𝓖) (𝓜 .mem) (𝓡 .run) (tablesOf 𝓤 H 𝓜 (tables 𝓤 H 𝓜 𝓡 code.env))
     (cited 𝓤 H (Gather 𝓤 H (𝓖 .A) (𝓜 .mem) (𝓡 .run)) 𝓜 𝓡 code.env #gather gather-def.routine code.calls-tables·gather (gather-thm.met 𝓤 H 𝓜 𝓖 𝓡))
-    (cited 𝓤 H (Core 𝓤 H (𝓖 .A) (𝓜 .mem) (𝓡 .run)) 𝓜 𝓡 code.env #get-among core-def.routine code.calls-symbols·get·get-among (core-thm.met 𝓤 H 𝓜 𝓖 𝓡)))
+    (cited 𝓤 H (Core 𝓤 H (𝓖 .A) (𝓜 .mem) (𝓡 .run)) 𝓜 𝓡 code.env #get-among core-def.routine code.calls-lookups·get-among (core-thm.met 𝓤 H 𝓜 𝓖 𝓡)))

@@ -37,19 +37,20 @@ use denote.Triple.Table.{entered, cited}
 use denote.Triple.Walked.{says, Stays, stay-none, stay-none-slice, walkOf, goes-none, goes-none-slice, Walks, ends-at, walked, walk-meets}
 use denote.Exit.{yes}
 use denote.Signature.{plain}
-use Rattle.tables.specs.declared.symbol.Symbol.{Symbol}
-use Rattle.tables.specs.Rows.{readFrom, gathered}
-use Rattle.tables.proofs.symbol.Symbol as R
+use Rattle.columns.specs.declared.symbol.Symbol.{Symbol}
+use Rattle.columns.specs.Rows.{readFrom}
+use Rattle.tables.specs.Gathered.{gathered}
+use Rattle.columns.proofs.symbol.Symbol as R
 use Rattle.tables.proofs.gather as gather
 use Rattle.tables.proofs.gather.Symbol as gather-def
 use Rattle.tables.proofs.gather.Symbol.{name as #gather}
 use Rattle.tables.proofs.gather.Met as gather-thm
-use Rattle.symbols.specs.Gets.{typeOf}
-use Rattle.symbols.proofs.Found.{type-same}
-use Rattle.symbols.proofs.get.type_among as core
-use Rattle.symbols.proofs.get.type_among.Symbol as core-def
-use Rattle.symbols.proofs.get.type_among.Symbol.{name as #type-among}
-use Rattle.symbols.proofs.get.type_among.Met as core-thm
+use Rattle.lookups.specs.Gets.{typeOf}
+use Rattle.symbols.proofs.Whole.{type-same}
+use Rattle.lookups.proofs.type_among as core
+use Rattle.lookups.proofs.type_among.Symbol as core-def
+use Rattle.lookups.proofs.type_among.Symbol.{name as #type-among}
+use Rattle.lookups.proofs.type_among.Met as core-thm
 use Rattle.symbols.proofs.get.get_type.Key.{name as #get-type}
 use Rattle.symbols.proofs.get.get_type as f
 use Rattle.symbols.proofs.get.get_type.Statement as stated
@@ -223,4 +224,4 @@ get-type-spec 𝓤 H 𝓜 𝓖 𝓡 =
     (tables 𝓤 H 𝓜 𝓡 code.env .C) (tables 𝓤 H 𝓜 𝓡 code.env .Λ) #get-type code.function (code.unfolded 𝓤 H 𝓜 𝓡)
     (meets 𝓤 H (𝓖 .A) (givenOf 𝓤 H 𝓜 𝓖) (𝓜 .mem) (𝓡 .run) (tablesOf 𝓤 H 𝓜 (tables 𝓤 H 𝓜 𝓡 code.env))
     (cited 𝓤 H (Gather 𝓤 H (𝓖 .A) (𝓜 .mem) (𝓡 .run)) 𝓜 𝓡 code.env #gather gather-def.routine code.calls-tables·gather (gather-thm.met 𝓤 H 𝓜 𝓖 𝓡))
-    (cited 𝓤 H (Core 𝓤 H (𝓖 .A) (𝓜 .mem) (𝓡 .run)) 𝓜 𝓡 code.env #type-among core-def.routine code.calls-symbols·get·type-among (core-thm.met 𝓤 H 𝓜 𝓖 𝓡)))
+    (cited 𝓤 H (Core 𝓤 H (𝓖 .A) (𝓜 .mem) (𝓡 .run)) 𝓜 𝓡 code.env #type-among core-def.routine code.calls-lookups·type-among (core-thm.met 𝓤 H 𝓜 𝓖 𝓡)))

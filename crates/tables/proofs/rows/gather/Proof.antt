@@ -54,16 +54,17 @@ use denote.Triple.Walked.{says, Stays, stay-none-slice, walkOf, goes-none-slice,
 use denote.Exit.{yes}
 use denote.Signature.{plain}
 use borrow.Table.OneValue.{part-in, part-out}
-use Rattle.tables.specs.Rows.{vacant, putRow, rowsOf, gathered}
-use Rattle.tables.specs.declared.symbol.Symbol.{Symbol}
-use Rattle.tables.proofs.Columns.{rows-start, rows-next, gather-many, gather-few}
+use Rattle.columns.specs.Rows.{vacant, putRow}
+use Rattle.tables.specs.Gathered.{rowsOf, gathered}
+use Rattle.columns.specs.declared.symbol.Symbol.{Symbol}
+use Rattle.tables.proofs.Gathering.{rows-start, rows-next, gather-many, gather-few}
 use Rattle.tables.proofs.Guard.{holds, fails, by-test, guarded}
-use Rattle.tables.proofs.symbol.Symbol as R
-use Rattle.tables.proofs.symbol.Symbol.Laws as R′
-use Rattle.tables.proofs.rows.put_row as put-row
-use Rattle.tables.proofs.rows.put_row.Symbol as put-row-def
-use Rattle.tables.proofs.rows.put_row.Symbol.{name as #put-row}
-use Rattle.tables.proofs.rows.put_row.Met as put-row-thm
+use Rattle.columns.proofs.symbol.Symbol as R
+use Rattle.columns.proofs.symbol.Symbol.Laws as R′
+use Rattle.columns.proofs.put_row as put-row
+use Rattle.columns.proofs.put_row.Symbol as put-row-def
+use Rattle.columns.proofs.put_row.Symbol.{name as #put-row}
+use Rattle.columns.proofs.put_row.Met as put-row-thm
 use Rattle.tables.proofs.rows.gather.Key.{name as #gather}
 use Rattle.tables.proofs.rows.gather as f
 use Rattle.tables.proofs.rows.gather.Statement as stated
@@ -368,4 +369,4 @@ gather-spec 𝓤 H 𝓜 𝓖 𝓡 =
     entered 𝓤 H (tripleOf 𝓤 H (𝓖 .A) f.signature (f.spec 𝓤 H (𝓖 .A) (𝓜 .mem) (𝓡 .run)))
     (tables 𝓤 H 𝓜 𝓡 code.env .C) (tables 𝓤 H 𝓜 𝓡 code.env .Λ) #gather code.function (code.unfolded 𝓤 H 𝓜 𝓡)
     (gather-meets 𝓤 H (𝓖 .A) (givenOf 𝓤 H 𝓜 𝓖) (𝓜 .mem) (𝓡 .run) (tablesOf 𝓤 H 𝓜 (tables 𝓤 H 𝓜 𝓡 code.env))
-    (cited 𝓤 H (Put 𝓤 H (𝓖 .A) (𝓜 .mem) (𝓡 .run)) 𝓜 𝓡 code.env #put-row put-row-def.routine code.calls-tables·rows·put-row (put-row-thm.met 𝓤 H 𝓜 𝓖 𝓡)))
+    (cited 𝓤 H (Put 𝓤 H (𝓖 .A) (𝓜 .mem) (𝓡 .run)) 𝓜 𝓡 code.env #put-row put-row-def.routine code.calls-columns·put-row (put-row-thm.met 𝓤 H 𝓜 𝓖 𝓡)))

@@ -38,11 +38,11 @@ use denote.Triple.Table.{entered, cited}
 use denote.Triple.Walked.{says, Stays, stay-none, stay-none-slice, walkOf, goes-none, goes-none-slice, Walks, ends-at, walked, walk-meets}
 use denote.Exit.{yes}
 use denote.Signature.{plain}
-use Rattle.tables.specs.Rows.{gathered}
-use Rattle.tables.specs.Order.{slotIn, slotOf}
-use Rattle.tables.specs.declared.symbol.Symbol.{Symbol}
-use Rattle.tables.proofs.Sentences.{slot-same}
-use Rattle.tables.proofs.symbol.Symbol as R
+use Rattle.columns.specs.Search.{slotIn}
+use Rattle.tables.specs.Gathered.{gathered, slotOf}
+use Rattle.columns.specs.declared.symbol.Symbol.{Symbol}
+use Rattle.tables.proofs.Gathering.{slot-same}
+use Rattle.columns.proofs.symbol.Symbol as R
 use Rattle.tables.proofs.rows.gather as gather
 use Rattle.tables.proofs.rows.gather.Symbol as gather-def
 use Rattle.tables.proofs.rows.gather.Symbol.{name as #gather}

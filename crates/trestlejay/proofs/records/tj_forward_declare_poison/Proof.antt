@@ -1,4 +1,4 @@
--- `tj_forward_declare_poison` only calls `change_symbol` of the crate `symbols`.
+-- `tj_forward_declare_poison` only calls `forward_declare_symbol` of the crate `symbols`.
 -- Assumes nothing.
 use mathlib.Core.Path.{refl}
 use mathlib.Core.List.{List, [], _∷_}
@@ -41,18 +41,18 @@ use denote.Triple.Spec.{Meets}
 use denote.Triple.Clauses.{Lasts, lasts, atExit}
 use denote.Triple.Call.{calls-at}
 use denote.Triple.Table.{entered, cited}
-use Rattle.tables.proofs.symbol.Symbol as T
+use Rattle.columns.proofs.symbol.Symbol as T
 use Rattle.answers.specs.declared.flat.Answer.{Answer}
 use Rattle.answers.proofs.flat.Answer as R
 use Rattle.answers.proofs.flat.Answer.Laws as R′
-use Rattle.symbols.specs.declared.ways.Operation.{Operation}
-use Rattle.symbols.specs.declared.ways.Operation.the-variants.{ForwardPoison}
-use Rattle.symbols.proofs.ways.Operation as O
-use Rattle.symbols.proofs.ways.Operation.Laws as O′
-use Rattle.symbols.proofs.change_symbol as g
-use Rattle.symbols.proofs.change_symbol.Symbol as callee
-use Rattle.symbols.proofs.change_symbol.Met as callee-thm
-use Rattle.trestlejay.proofs.Pass.{Promised, spelt, at-spelt, Got, answered, handed-out}
+use Rattle.ways.specs.declared.operations.Declared.{Declared}
+use Rattle.ways.specs.declared.operations.Declared.the-variants as declared
+use Rattle.ways.proofs.operations.Declared as O
+use Rattle.ways.proofs.operations.Declared.Laws as O′
+use Rattle.symbols.proofs.forward_declare_symbol as g
+use Rattle.symbols.proofs.forward_declare_symbol.Symbol as callee
+use Rattle.symbols.proofs.forward_declare_symbol.Met as callee-thm
+use Rattle.tables.proofs.Pass.{Promised, spelt, at-spelt, Got, answered, handed-out}
 use Rattle.trestlejay.proofs.records.tj_forward_declare_poison.Key as key
 use Rattle.trestlejay.proofs.records.tj_forward_declare_poison as f
 use Rattle.trestlejay.proofs.records.tj_forward_declare_poison.Statement as stated
@@ -74,8 +74,8 @@ module _ {M : Type 1} (𝓤 : URA M) (H : Heap 𝓤) (A : Atoms 𝓤) (W : Given
     abbrev y : P .Ghost
     y = ((κs, qs, b, a, spelt 𝓤 H A f.signature (f.spec 𝓤 H A at-mem run) spells κs a), tt)
 
-    abbrev op : Operation
-    op = ForwardPoison
+    abbrev op : Declared
+    op = declared.Poison
 
     made : Is O.the-row op (EL.vals O.the-type O′.the-laws op)
     made = EL.owes O.the-type O′.the-laws op tt
@@ -150,4 +150,4 @@ unfolding code.routine tablesOf
 tj-forward-declare-poison-spec 𝓤 H 𝓜 𝓖 𝓡 =
     entered 𝓤 H (P 𝓤 H (𝓖 .A) (givenOf 𝓤 H 𝓜 𝓖) (𝓜 .mem) (𝓡 .run)) (tables 𝓤 H 𝓜 𝓡 code.env .C) (tables 𝓤 H 𝓜 𝓡 code.env .Λ) key.name code.function (code.unfolded 𝓤 H 𝓜 𝓡)
     (meets 𝓤 H (𝓖 .A) (givenOf 𝓤 H 𝓜 𝓖) (𝓜 .mem) (𝓡 .run) (tablesOf 𝓤 H 𝓜 (tables 𝓤 H 𝓜 𝓡 code.env))
-    (cited 𝓤 H (Q 𝓤 H (𝓖 .A) (givenOf 𝓤 H 𝓜 𝓖) (𝓜 .mem) (𝓡 .run)) 𝓜 𝓡 code.env callee.name callee.routine code.calls-symbols·change-symbol (callee-thm.met 𝓤 H 𝓜 𝓖 𝓡)))
+    (cited 𝓤 H (Q 𝓤 H (𝓖 .A) (givenOf 𝓤 H 𝓜 𝓖) (𝓜 .mem) (𝓡 .run)) 𝓜 𝓡 code.env callee.name callee.routine code.calls-symbols·forward-declare-symbol (callee-thm.met 𝓤 H 𝓜 𝓖 𝓡)))

@@ -28,12 +28,12 @@ use denote.Triple.Statement.{Contract, Triple}
 use denote.Triple.Spec.{Meets}
 use denote.Triple.Call.{calls-at}
 use denote.Triple.Table.{entered, cited}
-use Rattle.tables.proofs.symbol.Symbol as T
+use Rattle.columns.proofs.symbol.Symbol as T
 use Rattle.answers.proofs.flat.Answer as R
 use Rattle.answers.proofs.flat.Answer.Laws as R′
 use Rattle.updates.proofs.do_update_symbol.Symbol as callee
 use Rattle.updates.proofs.do_update_symbol.Met as callee-thm
-use Rattle.trestlejay.proofs.Pass.{Promised, spelt, at-spelt, answered, handed-out}
+use Rattle.tables.proofs.Pass.{Promised, spelt, at-spelt, answered, handed-out}
 use Rattle.trestlejay.proofs.records.tj_update_symbol.Key as key
 use Rattle.trestlejay.proofs.records.tj_update_symbol as f
 use Rattle.trestlejay.proofs.records.tj_update_symbol.Statement as stated

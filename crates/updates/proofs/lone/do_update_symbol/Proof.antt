@@ -42,9 +42,9 @@ use denote.Triple.Table.{entered, cited}
 use denote.Triple.Walked.{says, Stays, stay-ref, stay-none, stay-none-slice, gave-slice, walkOf, AllGo, goes-ref, goes-none, goes-none-slice, goes-gave-slice, Walks, ends-at, walked, walk-meets}
 use denote.Exit.{yes}
 use denote.Signature.{plain}
-use Rattle.tables.specs.declared.symbol.Symbol.{Symbol}
-use Rattle.tables.proofs.symbol.Symbol as T
-use Rattle.tables.proofs.symbol.Symbol.Laws as T′
+use Rattle.columns.specs.declared.symbol.Symbol.{Symbol}
+use Rattle.columns.proofs.symbol.Symbol as T
+use Rattle.columns.proofs.symbol.Symbol.Laws as T′
 use Rattle.answers.proofs.flat.Answer as R
 use Rattle.answers.proofs.flat.Answer.Laws as R′
 use Rattle.updates.specs.Lone.{loneUpdated, loneWordsAfter}

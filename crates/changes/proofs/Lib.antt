@@ -1,0 +1,4 @@
+-- What the proofs of several functions use.
+pub mod Decided
+pub mod Outcomes
+pub mod Single

@@ -1,0 +1,71 @@
+-- Put, poison and forward declaration: what each does to a table and its store.
+use mathlib.Core.Bool.{Bool}
+use mathlib.Core.List.{List, _++_}
+use Prim.Native.Nat.{ℕ, _*_}
+use lib.ListN.{length, take, drop, getD, set}
+use Rattle.columns.specs.declared.symbol.Symbol.{Symbol}
+use Rattle.columns.specs.Rows.{vacant}
+use Rattle.answers.specs.declared.flat.Answer.{Answer}
+use Rattle.answers.specs.Flat.{accepted, notAccepted}
+use Rattle.updates.specs.declared.record.Updated.{Updated}
+use Rattle.ways.specs.declared.operations.Operation.{Operation}
+use Rattle.ways.specs.declared.slot.Way.{Way}
+use Rattle.ways.specs.declared.slot.Way.the-variants as way
+use Rattle.ways.specs.Ways.{wayOf}
+use Rattle.slots.specs.Deeds.{Deed, deed, overwrites, filled, filledWords, seen}
+use Rattle.changes.specs.declared.change.Change.{Change}
+
+-- What is done to the first free record. "Put of poison: .. or inserts. Put of a type under a new id inserts it, well
+-- formed or not. Forward declaration overwrites or inserts." Value 3: a record was inserted.
+abbrev pub inserts : Operation → List ℕ → ℕ → Bool → ℕ → ℕ → List ℕ → Deed
+inserts op ws id authority place mark offered =
+    deed (filled op id authority place mark offered) (filledWords op offered ws) (accepted 3)
+
+-- An operation's outcome: the answer, and what the table and the store hold then.
+pub record Outcome : Type 0 where
+  pub answer : Answer
+  pub table : List Symbol
+  pub store : List ℕ
+
+-- "Slot k's type stands in a lent store of words from 48k on."
+abbrev pub atSlot : ℕ → Deed → List Symbol → List ℕ → Outcome
+atSlot k d table store =
+    record { answer = d .answer; table = set table k (d .symbol); store = take (k * 48) store ++ d .words }
+
+-- "Every refusal returns its number and a place (0 unless named) and changes nothing lent."
+abbrev pub outcomeBy : Way → Operation → ℕ → Bool → ℕ → ℕ → List ℕ → List Symbol → List ℕ → Outcome
+outcomeBy (way.Refused n p) op id authority place mark offered table store =
+    record { answer = notAccepted n p; table = table; store = store }
+outcomeBy way.Kept op id authority place mark offered table store =
+    record { answer = accepted 0; table = table; store = store }
+outcomeBy (way.Found k) op id authority place mark offered table store =
+    atSlot k (overwrites op (getD table k vacant) (drop (k * 48) store) id authority place mark offered) table store
+outcomeBy (way.Free k) op id authority place mark offered table store =
+    atSlot k (inserts op (drop (k * 48) store) id authority place mark offered) table store
+
+unfoldable pub outcome : Operation → ℕ → Bool → ℕ → ℕ → List ℕ → List Symbol → List ℕ → Outcome
+outcome op id authority place mark offered table store =
+    outcomeBy (wayOf op id offered table store) op id authority place mark offered table store
+
+-- The same as the code's core hands it back: the slot and its new record; past the last slot, none.
+abbrev pub nowhere : ℕ → Answer → Change
+nowhere n a = record { slot = n; symbol = vacant; answer = a }
+
+abbrev pub inSlot : ℕ → Updated → Change
+inSlot k u = record { slot = k; symbol = u .symbol; answer = u .answer }
+
+abbrev pub changeBy : Way → Operation → ℕ → Bool → ℕ → ℕ → List ℕ → List Symbol → List ℕ → Change
+changeBy (way.Refused n p) op id authority place mark offered table store = nowhere (length table) (notAccepted n p)
+changeBy way.Kept op id authority place mark offered table store = nowhere (length table) (accepted 0)
+changeBy (way.Found k) op id authority place mark offered table store =
+    inSlot k (seen (overwrites op (getD table k vacant) (drop (k * 48) store) id authority place mark offered))
+changeBy (way.Free k) op id authority place mark offered table store =
+    inSlot k (seen (inserts op (drop (k * 48) store) id authority place mark offered))
+
+unfoldable pub changeOf : Operation → ℕ → Bool → ℕ → ℕ → List ℕ → List Symbol → List ℕ → Change
+changeOf op id authority place mark offered table store =
+    changeBy (wayOf op id offered table store) op id authority place mark offered table store
+
+unfoldable pub storeOf : Operation → ℕ → Bool → ℕ → ℕ → List ℕ → List Symbol → List ℕ → List ℕ
+storeOf op id authority place mark offered table store =
+    outcomeBy (wayOf op id offered table store) op id authority place mark offered table store .store

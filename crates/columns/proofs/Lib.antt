@@ -1,0 +1,4 @@
+-- What the proofs of several functions use.
+pub mod Reading
+pub mod Searching
+pub mod Single

@@ -1,0 +1,42 @@
+-- What is done to a record, by the operation that the code found.
+-- Assumes nothing.
+use mathlib.Core.Path.{_≡_}
+use mathlib.Core.Bool.{Bool, true, false}
+use mathlib.Core.List.{List}
+use Prim.Native.Nat.{ℕ}
+use Rattle.buffers.specs.Written.{written}
+use Rattle.columns.specs.declared.symbol.Symbol.{Symbol}
+use Rattle.answers.specs.declared.flat.Answer.{Answer}
+use Rattle.updates.specs.declared.record.Updated.{Updated}
+use Rattle.ways.specs.declared.operations.Operation.{Operation}
+use Rattle.ways.specs.Ways.{offersType}
+use Rattle.slots.specs.Deeds.{typed, poisoned, filled, filledWords, overwrites, seen}
+
+-- a record that is filled
+module _ (op : Operation) (id : ℕ) (authority : Bool) (place mark : ℕ) (offered ws : List ℕ) (t : Bool) (e : t ≡ offersType op) where
+  pub fills-type : (s : Symbol) → t ≡ true → s ≡ typed id authority place offered → s ≡ filled op id authority place mark offered
+  fills-type s h q = rw (← e, h) q
+
+  pub fills-words : (after : List ℕ) → t ≡ true → after ≡ written offered ws → after ≡ filledWords op offered ws
+  fills-words after h q = rw (← e, h) q
+
+  pub fills-poison : (s : Symbol) → t ≡ false → s ≡ poisoned id authority place mark → s ≡ filled op id authority place mark offered
+  fills-poison s h q = rw (← e, h) q
+
+  pub words-stay : t ≡ false → ws ≡ filledWords op offered ws
+  words-stay h = rw (← e, h)
+
+-- the operation that the code found
+module _ (op k : Operation) (e : op ≡ k) (ws : List ℕ) (id : ℕ) (authority : Bool) (place mark : ℕ) (offered : List ℕ) (s : Symbol) where
+  pub overwrites-by : (r : Updated) → r ≡ seen (overwrites k s ws id authority place mark offered) →
+      r ≡ seen (overwrites op s ws id authority place mark offered)
+  overwrites-by r q = rw e q
+
+  pub overwrites-as : (t : Symbol) (a : Answer) → t ≡ overwrites k s ws id authority place mark offered .symbol →
+      a ≡ overwrites k s ws id authority place mark offered .answer →
+      record { symbol = t; answer = a } ≡ seen (overwrites op s ws id authority place mark offered)
+  overwrites-as t a p q = rw (e, p, q)
+
+  pub overwrites-words : (after : List ℕ) → after ≡ overwrites k s ws id authority place mark offered .words →
+      after ≡ overwrites op s ws id authority place mark offered .words
+  overwrites-words after q = rw e q

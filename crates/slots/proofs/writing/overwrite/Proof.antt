@@ -1,0 +1,30 @@
+use borrow.Author.Needs.{needs}
+use Rattle.slots.proofs.Doing.{overwrites-by, overwrites-as, overwrites-words}
+use Rattle.slots.proofs.writing.overwrite.Statement.{statement}
+use Rattle.slots.proofs.writing.overwrite.Tie as tie
+
+pub overwrite-spec : {M : Type 1} → statement M
+overwrite-spec =
+    tie.close
+    (tie.spec
+    (λ c. search needs)
+    (λ c κs. search needs)
+    (λ c. search needs)
+    (λ c κs. search needs)
+    (λ c κs. search needs)
+    (λ c. search needs)
+    (λ c κs. search needs)
+    (λ c. search needs)
+    (λ c κs. search needs)
+    (λ c κs. search needs)
+    (λ c. search needs)
+    (λ c κs. search needs)
+    (λ c κs. search needs)
+    (λ c κs. search needs)
+    (λ c. (search overwrites-as, search overwrites-words))
+    (λ c. (search overwrites-as, search overwrites-words))
+    (λ c. search needs)
+    (λ c. (search overwrites-by, search overwrites-words))
+    (λ c. (search overwrites-as, search overwrites-words))
+    (λ c. search needs)
+    (λ c. (search overwrites-as, search overwrites-words)))

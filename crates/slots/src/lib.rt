@@ -1,0 +1,5 @@
+// What an operation does to the record of a slot and to its words.
+mod writing;
+
+pub use writing::fill;
+pub use writing::overwrite;

@@ -1,0 +1,92 @@
+use crate::change::change_symbol;
+use answers::Answer;
+use columns::Symbol;
+use ways::Declared;
+use ways::Offer;
+use ways::Operation;
+use ways::forward;
+use ways::put;
+ghost use mathlib.Core.Path.{_≡_};
+ghost use mathlib.Core.List.{[]};
+ghost use Rattle.ways.specs.Ways as ways;
+ghost use Rattle.changes.specs.Changes as rules;
+
+// Puts nothing, poison or a type under a name.
+pub fn put_symbol(
+    table: &mut [Symbol],
+    store: &mut [u64],
+    offer: Offer,
+    id: u32,
+    authority: bool,
+    place: u64,
+    mark: u64,
+    offered: &[u64],
+) -> Answer
+    ensures { λ r. ⌜ (r ≡ rules.outcome (ways.put offer) id authority place mark (now (offered .entry)) (now (table .entry)) (now (store .entry)) .answer)
+        × (now (table .exit) ≡ rules.outcome (ways.put offer) id authority place mark (now (offered .entry)) (now (table .entry)) (now (store .entry)) .table)
+        × (now (store .exit) ≡ rules.outcome (ways.put offer) id authority place mark (now (offered .entry)) (now (table .entry)) (now (store .entry)) .store) ⌝ }
+{
+    change_symbol(
+        table,
+        store,
+        put(offer),
+        id,
+        authority,
+        place,
+        mark,
+        offered,
+    )
+}
+
+// Poisons what stands under a name.
+pub fn poison_symbol(
+    table: &mut [Symbol],
+    store: &mut [u64],
+    id: u32,
+    authority: bool,
+    place: u64,
+    mark: u64,
+) -> Answer
+    ensures { λ r. ⌜ (r ≡ rules.outcome Operation.PutPoison id authority place mark [] (now (table .entry)) (now (store .entry)) .answer)
+        × (now (table .exit) ≡ rules.outcome Operation.PutPoison id authority place mark [] (now (table .entry)) (now (store .entry)) .table)
+        × (now (store .exit) ≡ rules.outcome Operation.PutPoison id authority place mark [] (now (table .entry)) (now (store .entry)) .store) ⌝ }
+{
+    let none = [0u64; 1];
+    change_symbol(
+        table,
+        store,
+        Operation::PutPoison,
+        id,
+        authority,
+        place,
+        mark,
+        &none[..0],
+    )
+}
+
+// Declares poison or a type under a name, whatever stands there.
+pub fn forward_declare_symbol(
+    table: &mut [Symbol],
+    store: &mut [u64],
+    declared: Declared,
+    id: u32,
+    authority: bool,
+    place: u64,
+    mark: u64,
+    offered: &[u64],
+) -> Answer
+    ensures { λ r. ⌜ (r ≡ rules.outcome (ways.forward declared) id authority place mark (now (offered .entry)) (now (table .entry)) (now (store .entry)) .answer)
+        × (now (table .exit) ≡ rules.outcome (ways.forward declared) id authority place mark (now (offered .entry)) (now (table .entry)) (now (store .entry)) .table)
+        × (now (store .exit) ≡ rules.outcome (ways.forward declared) id authority place mark (now (offered .entry)) (now (table .entry)) (now (store .entry)) .store) ⌝ }
+{
+    change_symbol(
+        table,
+        store,
+        forward(declared),
+        id,
+        authority,
+        place,
+        mark,
+        offered,
+    )
+}

@@ -1,0 +1,18 @@
+use borrow.Author.Needs.{needs}
+use Rattle.ways.proofs.Decided.{out-of-order, nothing-put, found-there, room-there, none-free}
+use Rattle.ways.proofs.slot.slot_for.Statement.{statement}
+use Rattle.ways.proofs.slot.slot_for.Tie as tie
+
+pub slot-for-spec : {M : Type 1} → statement M
+slot-for-spec =
+    tie.close
+    (tie.spec
+    (λ c κs. search needs)
+    (λ c. search out-of-order)
+    (λ c κs. search needs)
+    (λ c. search nothing-put)
+    (λ c κs. search needs)
+    (λ c. search found-there)
+    (λ c κs. search needs)
+    (λ c. search room-there)
+    (λ c. search none-free))

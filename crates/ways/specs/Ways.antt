@@ -1,0 +1,66 @@
+-- What is done to a table under a name, and which record that is about.
+use mathlib.Core.Bool.{Bool, true, false, cond}
+use mathlib.Core.List.{List}
+use Prim.Native.Nat.{ℕ}
+use lib.Dec.{ltb}
+use lib.ListN.{length}
+use Rattle.layers.specs.Answer.{Answer, given, nothing, refused}
+use Rattle.layers.specs.Check.{checkOf}
+use Rattle.columns.specs.declared.symbol.Symbol.{Symbol}
+use Rattle.columns.specs.Search.{slotFor, firstFree}
+use Rattle.orders.specs.Order.{inOrder}
+use Rattle.ways.specs.declared.operations.Operation.{Operation}
+use Rattle.ways.specs.declared.operations.Operation.the-variants as operation
+use Rattle.ways.specs.declared.operations.Offer.{Offer}
+use Rattle.ways.specs.declared.operations.Offer.the-variants as offer
+use Rattle.ways.specs.declared.operations.Declared.{Declared}
+use Rattle.ways.specs.declared.operations.Declared.the-variants as declared
+use Rattle.ways.specs.declared.slot.Way.{Way}
+use Rattle.ways.specs.declared.slot.Way.the-variants as way
+
+-- Put is of nothing, poison or a type; a forward declaration of poison or a type.
+abbrev pub put : Offer → Operation
+put offer.Nothing = operation.PutNothing
+put offer.Poison = operation.PutPoison
+put offer.Type = operation.PutType
+
+abbrev pub forward : Declared → Operation
+forward declared.Poison = operation.ForwardPoison
+forward declared.Type = operation.ForwardType
+
+abbrev pub offersType : Operation → Bool
+offersType operation.PutNothing = false
+offersType operation.PutPoison = false
+offersType operation.PutType = true
+offersType operation.ForwardPoison = false
+offersType operation.ForwardType = true
+
+abbrev pub putsNothing : Operation → Bool
+putsNothing operation.PutNothing = true
+putsNothing operation.PutPoison = false
+putsNothing operation.PutType = false
+putsNothing operation.ForwardPoison = false
+putsNothing operation.ForwardType = false
+
+-- "Types are checked 1, 2 (all layers), 3"; nothing and a poison mark are no type.
+abbrev pub offeredCheck : Operation → List ℕ → Answer ℕ
+offeredCheck op offered = cond (offersType op) (checkOf offered) (given 0)
+
+-- "12 table not in order; 13 an insertion with no free record". "Put with nothing: accepted, unchanged."
+unfoldable pub placeOf : Operation → ℕ → List Symbol → List ℕ → Way
+placeOf op id table store =
+    cond (inOrder table store)
+    (cond (putsNothing op) way.Kept
+    (cond (ltb (slotFor id table) (length table)) (way.Found (slotFor id table))
+    (cond (ltb (firstFree table) (length table)) (way.Free (firstFree table))
+    (way.Refused 13 0))))
+    (way.Refused 12 0)
+
+abbrev pub unless : Answer ℕ → Way → Way
+unless (refused n p) w = way.Refused n p
+unless (given n) w = w
+unless nothing w = w
+
+-- "Types are checked 1, 2 (all layers), 3 ..; then 5, 12, 13, 4 .., 6 or 7": 4 and 7 are the update's.
+unfoldable pub wayOf : Operation → ℕ → List ℕ → List Symbol → List ℕ → Way
+wayOf op id offered table store = unless (offeredCheck op offered) (placeOf op id table store)

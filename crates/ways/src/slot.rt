@@ -1,0 +1,74 @@
+use crate::operations::Operation;
+use crate::operations::offers_type;
+use crate::operations::puts_nothing;
+use columns::first_free;
+use columns::slot_of;
+use layers::Checked;
+use layers::check_type;
+use orders::in_order;
+ghost use mathlib.Core.Path.{_≡_};
+ghost use Rattle.layers.specs.Answer.{ofChecked};
+ghost use Rattle.columns.specs.Rows.{readFrom};
+ghost use Rattle.ways.specs.Ways as rules;
+
+// The record that an operation is about: none, where everything is kept; the one that has the id; or the first free one.
+pub enum Way {
+    Refused { number: u64, place: u64 },
+    Kept,
+    Found(usize),
+    Free(usize),
+}
+
+// The checks of the offered type, where there is one.
+fn check_offered(operation: Operation, offered: &[u64]) -> Checked
+    ensures { λ r. ⌜ ofChecked r ≡ rules.offeredCheck operation (now (offered .entry)) ⌝ }
+{
+    if offers_type(operation) {
+        check_type(offered)
+    } else {
+        Checked::Good(0)
+    }
+}
+
+fn slot_for(operation: Operation, flat: &[u64; 768], n: usize, store: &[u64], id: u32) -> Way
+    ensures { λ r. ⌜ r ≡ rules.placeOf operation id (readFrom (now (flat .entry)) 0 n) (now (store .entry)) ⌝ }
+{
+    if !in_order(flat, n, store) {
+        return Way::Refused {
+            number: 12,
+            place: 0,
+        };
+    }
+    if puts_nothing(operation) {
+        return Way::Kept;
+    }
+    let at = slot_of(flat, n, id);
+    if at < n {
+        return Way::Found(at);
+    }
+    let free = first_free(flat, n);
+    if free < n {
+        return Way::Free(free);
+    }
+    Way::Refused {
+        number: 13,
+        place: 0,
+    }
+}
+
+// The refusals of the offered type come before those of the table.
+pub fn way_of(
+    operation: Operation,
+    flat: &[u64; 768],
+    n: usize,
+    store: &[u64],
+    id: u32,
+    offered: &[u64],
+) -> Way
+    ensures { λ r. ⌜ r ≡ rules.wayOf operation id (now (offered .entry)) (readFrom (now (flat .entry)) 0 n) (now (store .entry)) ⌝ }
+{
+    match check_offered(operation, offered) {
+        Checked::Refused { number, place } => Way::Refused { number, place },
+        Checked::Good(_) => slot_for(operation, flat, n, store, id),
+    }
+}
