@@ -12,8 +12,14 @@ use Rattle.ways.specs.declared.operations.Operation.{Operation}
 use Rattle.ways.specs.declared.slot.Way.{Way}
 use Rattle.ways.specs.declared.slot.Way.the-variants as way
 use Rattle.ways.specs.Ways.{wayOf}
-use Rattle.slots.specs.Deeds.{Deed, overwrites, inserts, seen}
+use Rattle.slots.specs.Deeds.{Deed, deed, overwrites, filled, filledWords, seen}
 use Rattle.changes.specs.declared.change.Change.{Change}
+
+-- What is done to the first free record. "Put of poison: .. or inserts. Put of a type under a new id inserts it, well
+-- formed or not. Forward declaration overwrites or inserts." Value 3: a record was inserted.
+abbrev pub inserts : Operation → List ℕ → ℕ → Bool → ℕ → ℕ → List ℕ → Deed
+inserts op ws id authority place mark offered =
+    deed (filled op id authority place mark offered) (filledWords op offered ws) (accepted 3)
 
 -- An operation's outcome: the answer, and what the table and the store hold then.
 pub record Outcome : Type 0 where

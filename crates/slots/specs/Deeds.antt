@@ -43,18 +43,12 @@ overwrites operation.ForwardPoison s ws id authority place mark offered =
 overwrites operation.ForwardType s ws id authority place mark offered =
     deed (typed id authority place offered) (written offered ws) (accepted 4)
 
--- To the first free record, which a put with nothing never comes to (`wayOf`). "Put of poison: .. or inserts. Put of a
--- type under a new id inserts it, well formed or not. Forward declaration overwrites or inserts." Value 3: a record was
--- inserted.
+-- A record that is made anew, and its words: of a type, or of poison. A put with nothing makes none (`wayOf`).
 abbrev pub filled : Operation → ℕ → Bool → ℕ → ℕ → List ℕ → Symbol
 filled op id authority place mark offered = cond (offersType op) (typed id authority place offered) (poisoned id authority place mark)
 
 abbrev pub filledWords : Operation → List ℕ → List ℕ → List ℕ
 filledWords op offered ws = cond (offersType op) (written offered ws) ws
-
-abbrev pub inserts : Operation → List ℕ → ℕ → Bool → ℕ → ℕ → List ℕ → Deed
-inserts op ws id authority place mark offered =
-    deed (filled op id authority place mark offered) (filledWords op offered ws) (accepted 3)
 
 -- As the code hands it back: the record and the answer.
 abbrev pub seen : Deed → Updated

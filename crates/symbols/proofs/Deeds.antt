@@ -25,7 +25,8 @@ use Rattle.answers.specs.declared.flat.Answer.{Answer}
 use Rattle.answers.specs.Flat.{accepted}
 use Rattle.updates.proofs.Cases.{by-lines}
 use Rattle.ways.specs.Ways.{offeredCheck}
-use Rattle.slots.specs.Deeds.{poisoned, typed, Deed, deed, overwrites, inserts}
+use Rattle.changes.specs.Changes.{inserts}
+use Rattle.slots.specs.Deeds.{poisoned, typed, Deed, deed, overwrites}
 use Rattle.ways.specs.declared.operations.Operation.{Operation}
 use Rattle.ways.specs.declared.operations.Operation.the-variants as operation
 use Rattle.ways.proofs.Decided.{notRefused}

@@ -31,8 +31,8 @@ use Rattle.updates.specs.Updates.{storedOf}
 use Rattle.updates.proofs.Cases.{by-lines}
 use Rattle.updates.proofs.Theorems.{poison-wins as update-poison, accepted-holds-offered}
 use Rattle.ways.specs.Ways.{putsNothing, offeredCheck, placeOf, unless, wayOf}
-use Rattle.slots.specs.Deeds.{typed, Deed, deed, overwrites, inserts}
-use Rattle.changes.specs.Changes.{Outcome, atSlot, outcomeBy, outcome}
+use Rattle.slots.specs.Deeds.{typed, Deed, deed, overwrites}
+use Rattle.changes.specs.Changes.{inserts, Outcome, atSlot, outcomeBy, outcome}
 use Rattle.lookups.specs.Gets.{markFor, got, storedType, typeIn, typeOf}
 use Rattle.lookups.specs.declared.get.Got.{Got}
 use Rattle.lookups.specs.declared.get.Got.the-variants as got′
