@@ -1,8 +1,7 @@
 /* What a table costs, by its number of records: nanoseconds a call, the least of seven runs. Every call asks for the
  * order of the whole table. Beside it, what sorting as many ids costs.
  *
- *   rt staticlib trestlejay
- *   cc -O2 -I include examples/tables.c target/staticlib/libtrestlejay.a -o tables && ./tables
+ *   cc -O2 -I include examples/tables.c "$(./archive)/libtrestlejay.a" -o tables && ./tables
  */
 #define _POSIX_C_SOURCE 199309L
 #include "trestlejay.h"

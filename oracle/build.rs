@@ -86,9 +86,11 @@ fn main() {
          #[path = {:?}] pub mod ask;\n}}\n\
          #[allow(dead_code, unused, clippy::all)]\n\
          pub mod typer {{\nuse crate::prelude::*;\n{typer}\n\
-         #[path = {:?}] pub mod ask;\n}}\n",
+         #[path = {:?}] pub mod ask;\n\
+         #[path = {:?}] pub mod timed;\n}}\n",
         inside("value_type"),
         inside("typer"),
+        inside("timed"),
     );
     let out = env::var("OUT_DIR").unwrap();
     fs::write(Path::new(&out).join("penne.rs"), text).unwrap();

@@ -5,6 +5,7 @@ use crate::face;
 use crate::plans;
 use crate::random::Random;
 use crate::records;
+use crate::sheet_face;
 use crate::small::*;
 use crate::types::*;
 use crate::words::{ARRAYLIKE, BOOL, CHAR8, POINTER, UINT8, VIEW};
@@ -91,6 +92,7 @@ pub fn compare(scale: u64, seed: u64) -> (u64, u64) {
     random_fixing(&mut tallies, scale, &mut Random::new(seed));
     let mut symbols = records::compare(scale, &mut Random::new(seed));
     symbols.extend(plans::compare(scale, &mut Random::new(seed)));
+    symbols.extend(sheet_face::compare(scale, &mut Random::new(seed)));
     report(&tallies.0, &symbols)
 }
 

@@ -2,9 +2,11 @@
 //! operation is refused with 12, and nothing changes. Some edits spoil nothing, those of a field that
 //! order does not ask for, and are judged as any table in order.
 
+use crate::blank::blank;
 use crate::lent::Lent;
+use crate::pools::Pool;
 use crate::random::Random;
-use crate::records::{room, Pool, Rows};
+use crate::records::{Rows, MOST};
 use crate::small::spoiled_chains;
 use crate::symbols::{taken, Asked, Judge, Operation, Symbol, PART};
 use crate::words::check;
@@ -41,26 +43,26 @@ pub fn compare(rows: &mut Rows, scale: u64, random: &mut Random) {
             if records > 4 && ![0, 1, 100, records].contains(&taken) {
                 continue;
             }
-            let pool = Pool::new(random);
-            let lent = pool.table(random, records, taken);
-            for (table, store) in spoiled(&lent, random, &bad) {
+            let pool = Pool::new(random, MOST);
+            let (table, store) = pool.table(random, records, taken);
+            for (table, store) in spoiled(&table, &store, random, &bad) {
                 ask_all(rows, &pool, &table, &store);
             }
         }
     }
     for records in [129, 130, 200] {
         for taken in [0, 1, 128, records] {
-            let pool = Pool::new(random);
-            let lent = pool.table(random, records, taken);
-            ask_all(rows, &pool, lent.table(), lent.store());
+            let pool = Pool::new(random, MOST);
+            let (table, store) = pool.table(random, records, taken);
+            ask_all(rows, &pool, &table, &store);
         }
     }
     for _ in 0..scale * 100 {
-        let pool = Pool::new(random);
+        let pool = Pool::new(random, MOST);
         let records = 1 + random.below(128);
         let taken = random.below(records + 1);
-        let lent = pool.table(random, records, taken);
-        let all = spoiled(&lent, random, &bad);
+        let (table, store) = pool.table(random, records, taken);
+        let all = spoiled(&table, &store, random, &bad);
         for _ in 0..200 {
             let (table, store) = &all[random.below(all.len())];
             let asked = pool.asked(random, records);
@@ -103,8 +105,12 @@ fn ask_all(rows: &mut Rows, pool: &Pool, table: &[Symbol], store: &[u64]) {
 }
 
 /// A table in order, spoiled in one way at a time: in every slot of a small one, in some of a large.
-fn spoiled(lent: &Lent, random: &mut Random, bad: &[&[u64]]) -> Vec<(Vec<Symbol>, Vec<u64>)> {
-    let (table, store) = (lent.table(), lent.store());
+fn spoiled(
+    table: &[Symbol],
+    store: &[u64],
+    random: &mut Random,
+    bad: &[&[u64]],
+) -> Vec<(Vec<Symbol>, Vec<u64>)> {
     let records = table.len();
     let taken = taken(table);
     let some = |slot: &usize| records <= 4 || slot % 43 == 0 || slot + 2 >= taken;
@@ -112,7 +118,7 @@ fn spoiled(lent: &Lent, random: &mut Random, bad: &[&[u64]]) -> Vec<(Vec<Symbol>
     let mut all = Vec::new();
 
     let exact = store.len();
-    let longer = [store, &room(PART)].concat();
+    let longer = [store, &blank(PART)].concat();
     for size in [0, 1, exact.max(1) - 1, exact + 1, exact + PART] {
         all.push((table.to_vec(), longer[..size].to_vec()));
     }
@@ -170,7 +176,7 @@ fn alone(rows: &mut Rows, chains: &[Vec<u64>]) {
         layers: 1,
         mark: 7,
     };
-    let mut words = room(PART);
+    let mut words = blank(PART);
     words[..3].copy_from_slice(&[6, 0, 0]);
     let mut ask = |symbol: Symbol, words: &[u64]| {
         for offered in OFFERED {

@@ -2,6 +2,7 @@
 //! Extern fixing, in its order.
 
 use crate::ask::{Answer, FIXING};
+use crate::blank::{blank, KEPT};
 
 #[repr(C)]
 pub struct Raw {
@@ -10,42 +11,42 @@ pub struct Raw {
 }
 
 extern "C" {
-    fn tj_check(t: *const u64, n: usize) -> Raw;
-    fn tj_is_wellformed(t: *const u64, n: usize) -> Raw;
-    fn tj_is_void(t: *const u64, n: usize) -> Raw;
-    fn tj_is_integral(t: *const u64, n: usize) -> Raw;
-    fn tj_is_signed(t: *const u64, n: usize) -> Raw;
-    fn tj_is_bitfield(t: *const u64, n: usize) -> Raw;
-    fn tj_is_slice_pointer(t: *const u64, n: usize) -> Raw;
-    fn tj_can_be_sized(t: *const u64, n: usize) -> Raw;
-    fn tj_can_be_struct_member(t: *const u64, n: usize) -> Raw;
-    fn tj_can_be_word_member(t: *const u64, n: usize) -> Raw;
-    fn tj_can_be_constant(t: *const u64, n: usize) -> Raw;
-    fn tj_can_be_variable(t: *const u64, n: usize) -> Raw;
-    fn tj_can_be_parameter(t: *const u64, n: usize) -> Raw;
-    fn tj_can_be_returned(t: *const u64, n: usize) -> Raw;
-    fn tj_get_element_type(t: *const u64, n: usize) -> Raw;
-    fn tj_get_pointee_type(t: *const u64, n: usize) -> Raw;
-    fn tj_get_viewee_type(t: *const u64, n: usize) -> Raw;
-    fn tj_fully_dereferenced(t: *const u64, n: usize) -> Raw;
-    fn tj_pointer_depth(t: *const u64, n: usize) -> Raw;
+    pub fn tj_check(t: *const u64, n: usize) -> Raw;
+    pub fn tj_is_wellformed(t: *const u64, n: usize) -> Raw;
+    pub fn tj_is_void(t: *const u64, n: usize) -> Raw;
+    pub fn tj_is_integral(t: *const u64, n: usize) -> Raw;
+    pub fn tj_is_signed(t: *const u64, n: usize) -> Raw;
+    pub fn tj_is_bitfield(t: *const u64, n: usize) -> Raw;
+    pub fn tj_is_slice_pointer(t: *const u64, n: usize) -> Raw;
+    pub fn tj_can_be_sized(t: *const u64, n: usize) -> Raw;
+    pub fn tj_can_be_struct_member(t: *const u64, n: usize) -> Raw;
+    pub fn tj_can_be_word_member(t: *const u64, n: usize) -> Raw;
+    pub fn tj_can_be_constant(t: *const u64, n: usize) -> Raw;
+    pub fn tj_can_be_variable(t: *const u64, n: usize) -> Raw;
+    pub fn tj_can_be_parameter(t: *const u64, n: usize) -> Raw;
+    pub fn tj_can_be_returned(t: *const u64, n: usize) -> Raw;
+    pub fn tj_get_element_type(t: *const u64, n: usize) -> Raw;
+    pub fn tj_get_pointee_type(t: *const u64, n: usize) -> Raw;
+    pub fn tj_get_viewee_type(t: *const u64, n: usize) -> Raw;
+    pub fn tj_fully_dereferenced(t: *const u64, n: usize) -> Raw;
+    pub fn tj_pointer_depth(t: *const u64, n: usize) -> Raw;
 
-    fn tj_known_size_in_bytes_as_word_member(t: *const u64, n: usize, size: *mut u64) -> Raw;
-    fn tj_stored_size(t: *const u64, n: usize, size: *mut u64) -> Raw;
-    fn tj_min_i128(t: *const u64, n: usize, low: *mut u64, high: *mut u64) -> Raw;
-    fn tj_max_u128(t: *const u64, n: usize, low: *mut u64, high: *mut u64) -> Raw;
+    pub fn tj_known_size_in_bytes_as_word_member(t: *const u64, n: usize, size: *mut u64) -> Raw;
+    pub fn tj_stored_size(t: *const u64, n: usize, size: *mut u64) -> Raw;
+    pub fn tj_min_i128(t: *const u64, n: usize, low: *mut u64, high: *mut u64) -> Raw;
+    pub fn tj_max_u128(t: *const u64, n: usize, low: *mut u64, high: *mut u64) -> Raw;
 
-    fn tj_identical(a: *const u64, na: usize, b: *const u64, nb: usize) -> Raw;
-    fn tj_equals(a: *const u64, na: usize, b: *const u64, nb: usize) -> Raw;
-    fn tj_is_like(a: *const u64, na: usize, b: *const u64, nb: usize) -> Raw;
-    fn tj_can_be_declared_as(a: *const u64, na: usize, b: *const u64, nb: usize) -> Raw;
-    fn tj_can_be_concretization_of(a: *const u64, na: usize, b: *const u64, nb: usize) -> Raw;
-    fn tj_can_coerce_into(a: *const u64, na: usize, b: *const u64, nb: usize) -> Raw;
-    fn tj_can_coerce_address_into(a: *const u64, na: usize, b: *const u64, nb: usize) -> Raw;
-    fn tj_can_autoderef_into(a: *const u64, na: usize, b: *const u64, nb: usize) -> Raw;
-    fn tj_can_subautoderef_into(a: *const u64, na: usize, b: *const u64, nb: usize) -> Raw;
+    pub fn tj_identical(a: *const u64, na: usize, b: *const u64, nb: usize) -> Raw;
+    pub fn tj_equals(a: *const u64, na: usize, b: *const u64, nb: usize) -> Raw;
+    pub fn tj_is_like(a: *const u64, na: usize, b: *const u64, nb: usize) -> Raw;
+    pub fn tj_can_be_declared_as(a: *const u64, na: usize, b: *const u64, nb: usize) -> Raw;
+    pub fn tj_can_be_concretization_of(a: *const u64, na: usize, b: *const u64, nb: usize) -> Raw;
+    pub fn tj_can_coerce_into(a: *const u64, na: usize, b: *const u64, nb: usize) -> Raw;
+    pub fn tj_can_coerce_address_into(a: *const u64, na: usize, b: *const u64, nb: usize) -> Raw;
+    pub fn tj_can_autoderef_into(a: *const u64, na: usize, b: *const u64, nb: usize) -> Raw;
+    pub fn tj_can_subautoderef_into(a: *const u64, na: usize, b: *const u64, nb: usize) -> Raw;
 
-    fn tj_fix_type_for_flags(
+    pub fn tj_fix_type_for_flags(
         t: *const u64,
         n: usize,
         external: bool,
@@ -101,8 +102,6 @@ static ENTRIES: [Entry; 32] = [
 
 /// Stands around and between everything that is lent.
 pub const GUARD: u64 = 0x6a75_6172_6421_a5a5;
-/// Stands in the outputs before the call.
-pub const KEPT: u64 = 0x6b65_7074_2121_5a5a;
 
 /// The library's answer, or what it did to words that it had no business with.
 pub fn answer(question: usize, a: &[u64], b: &[u64]) -> Result<Answer, String> {
@@ -154,11 +153,7 @@ pub fn answer(question: usize, a: &[u64], b: &[u64]) -> Result<Answer, String> {
 fn fixed(t: &[u64], external: bool, context: u64, room: usize) -> Result<Answer, String> {
     // guard, t, guard, output, guard
     let at = t.len() + 2;
-    let mut lent = vec![GUARD; at + room + 1];
-    lent[1..=t.len()].copy_from_slice(t);
-    for word in 0..room {
-        lent[at + word] = KEPT + word as u64;
-    }
+    let mut lent = [&[GUARD], t, &[GUARD], &blank(room), &[GUARD]].concat();
     let mut before = lent.clone();
 
     let base = lent.as_mut_ptr();

@@ -1,6 +1,7 @@
 //! Random questions about plans: a table whose members lead back to a Struct or a Word, a known type,
 //! and asked steps that mostly fit where the walk is.
 
+use crate::blank::{blank, KEPT};
 use crate::planning::*;
 use crate::random::Random;
 use crate::symbols::{taken, Symbol, FREE, PART};
@@ -30,7 +31,7 @@ impl Journey {
 }
 
 /// A type that mostly is well formed and mostly ends with a Struct or a Word.
-fn leading(random: &mut Random) -> Vec<Layer> {
+pub fn leading(random: &mut Random) -> Vec<Layer> {
     let most = random.pick(&[1, 2, 3, 4, 4, 8, 16]);
     let mut t = match random.once_in(3) {
         true => vec![[POINTER, 0, 0]; random.below(most)],
@@ -90,7 +91,7 @@ fn any_step(random: &mut Random) -> [u64; 4] {
 
 /// A step that fits behind the Pointers and Views of this type, and where it leads; none at a leaf
 /// without members.
-fn fitting(
+pub fn fitting(
     random: &mut Random,
     current: &[Layer],
     first: u32,
@@ -150,7 +151,7 @@ pub fn journey(random: &mut Random) -> Journey {
         true => random.below(18) as u8,
         false => random.pick(&[0, 0, 0, 0, 1, 1, 1, 2, 3, 255]),
     };
-    let rounds = random.pick(&[0, 1, 2, 63, 64, 64, 64, 64, 64, 64, 64, 64]);
+    let rounds = random.pick(&[0, 1, 2, 63, 65, 64, 64, 64, 64, 64, 64, 64]);
     let mut made = Journey {
         known: words(&known),
         steps,
@@ -167,7 +168,7 @@ pub fn journey(random: &mut Random) -> Journey {
 }
 
 /// A type that the settling looks at when the walk ends on this one.
-fn target(random: &mut Random, current: &[Layer]) -> Vec<Layer> {
+pub fn target(random: &mut Random, current: &[Layer]) -> Vec<Layer> {
     let t = match random.below(7) {
         0 => current.to_vec(),
         1 => [&[[POINTER, 0, 0]], current].concat(),
@@ -199,7 +200,8 @@ fn spoil(random: &mut Random, made: &mut Journey, members: Members) -> Members {
         made.rounds = random.pick(&[65, 64, u64::MAX]);
     }
     if faults & 16 == 16 {
-        return out_of_order(random, members);
+        let (table, store) = out_of_order(random, members.table, members.store);
+        return Members::new(table, store);
     }
     members
 }
@@ -221,14 +223,13 @@ fn bad_steps(random: &mut Random, steps: &[u64]) -> Vec<u64> {
 }
 
 /// A table with a fault, or with none after all.
-fn out_of_order(random: &mut Random, members: Members) -> Members {
-    let Members {
-        mut table,
-        mut store,
-        ..
-    } = members;
+pub fn out_of_order(
+    random: &mut Random,
+    mut table: Vec<Symbol>,
+    mut store: Vec<u64>,
+) -> (Vec<Symbol>, Vec<u64>) {
     if table.is_empty() {
-        return Members::new(table, vec![0; random.below(49)]);
+        return (table, blank(random.below(49)));
     }
     let slot = random.below(table.len());
     let other = random.below(table.len());
@@ -241,14 +242,14 @@ fn out_of_order(random: &mut Random, members: Members) -> Members {
         5 => {
             store.pop();
         }
-        6 => store.push(0),
+        6 => store.push(KEPT + store.len() as u64),
         _ => {
             let last = table.len() as u32;
             table.extend((last..129).map(|id| Symbol { id, ..FREE }));
             store.resize(PART * table.len(), 0);
         }
     }
-    Members::new(table, store)
+    (table, store)
 }
 
 /// Steps for the walker beside a plan's: one changed, added or gone, a bad one, or too many.

@@ -1,11 +1,12 @@
 //! The proved library's C face: include/trestlejay.h, section Symbols. Everything that is lent stands
 //! between guards.
 
-use crate::face::{Raw, GUARD, KEPT};
+use crate::blank::KEPT;
+use crate::face::{Raw, GUARD};
 use crate::symbols::{Asked, Operation, Symbol, Told};
 
 extern "C" {
-    fn tj_update_symbol(
+    pub fn tj_update_symbol(
         symbol: *mut Symbol,
         words: *mut u64,
         nwords: usize,
@@ -15,7 +16,7 @@ extern "C" {
         offered: *const u64,
         n: usize,
     ) -> Raw;
-    fn tj_put_nothing(
+    pub fn tj_put_nothing(
         table: *mut Symbol,
         nt: usize,
         store: *mut u64,
@@ -24,7 +25,7 @@ extern "C" {
         authority: bool,
         place: u64,
     ) -> Raw;
-    fn tj_get_symbol(
+    pub fn tj_get_symbol(
         table: *const Symbol,
         nt: usize,
         store: *const u64,
@@ -33,7 +34,7 @@ extern "C" {
         authority: bool,
         found: *mut u64,
     ) -> Raw;
-    fn tj_put_type(
+    pub fn tj_put_type(
         table: *mut Symbol,
         nt: usize,
         store: *mut u64,
@@ -44,7 +45,7 @@ extern "C" {
         offered: *const u64,
         n: usize,
     ) -> Raw;
-    fn tj_forward_declare_type(
+    pub fn tj_forward_declare_type(
         table: *mut Symbol,
         nt: usize,
         store: *mut u64,
@@ -55,7 +56,7 @@ extern "C" {
         offered: *const u64,
         n: usize,
     ) -> Raw;
-    fn tj_put_poison(
+    pub fn tj_put_poison(
         table: *mut Symbol,
         nt: usize,
         store: *mut u64,
@@ -65,7 +66,7 @@ extern "C" {
         place: u64,
         mark: u64,
     ) -> Raw;
-    fn tj_forward_declare_poison(
+    pub fn tj_forward_declare_poison(
         table: *mut Symbol,
         nt: usize,
         store: *mut u64,
@@ -124,10 +125,7 @@ impl Lent {
         use Operation::*;
         let (nt, ns) = (self.table().len(), self.store().len());
         let (id, authority, place) = (asked.id, asked.authority, asked.place);
-        let offered = guarded(match &asked.operation {
-            PutType(words) | DeclareType(words) => words,
-            _ => &[],
-        });
+        let offered = guarded(asked.operation.offered());
         let mut lent = offered.clone();
         let n = lent.len() - 2;
         let mut found = [GUARD, KEPT, GUARD];

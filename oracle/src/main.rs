@@ -4,24 +4,30 @@ include!(concat!(env!("OUT_DIR"), "/penne.rs"));
 
 mod answers;
 mod ask;
+#[cfg(face)]
+mod bench;
+mod blank;
 mod cases;
 mod caught;
 #[cfg(face)]
 mod compare;
 #[cfg(face)]
+mod damage;
+#[cfg(face)]
 mod disorder;
 #[cfg(face)]
 mod face;
-#[cfg(face)]
 mod journeys;
 #[cfg(face)]
 mod lent;
+mod listed;
 #[cfg(face)]
 mod plan_face;
-#[cfg(face)]
+mod plan_lines;
 mod planning;
 #[cfg(face)]
 mod plans;
+mod pools;
 // Its fields are there for the original's text to fill in.
 #[allow(dead_code)]
 mod prelude;
@@ -30,7 +36,12 @@ mod random;
 mod records;
 mod script;
 #[cfg(face)]
+mod sheet_face;
+mod sheets;
+#[cfg(face)]
 mod small;
+#[cfg(face)]
+mod small_plans;
 mod smoke;
 mod symbols;
 mod types;
@@ -41,7 +52,11 @@ use std::io::Write;
 use std::process::exit;
 
 const USAGE: &str =
-    "oracle smoke | oracle cases | oracle script FILE | oracle answers COUNT SEED | oracle compare SCALE SEED";
+    "oracle smoke | oracle cases | oracle plans | oracle script FILE | oracle pairs FILE | oracle answers COUNT SEED | oracle compare SCALE SEED | oracle bench [quick]";
+
+#[cfg(not(face))]
+const WITHOUT: &str =
+    "this oracle was built without the library: set TRESTLEJAY_LIB and build again";
 
 fn main() {
     let words: Vec<String> = env::args().skip(1).collect();
@@ -49,14 +64,21 @@ fn main() {
     match words[..] {
         ["smoke"] => verdict(smoke::smoke()),
         ["cases"] => write(&cases::cases()),
+        ["plans"] => write(&plan_lines::plans()),
         ["script", file] => match std::fs::read_to_string(file) {
             Ok(text) => write(&script::script(&text)),
+            Err(error) => fail(&format!("{file}: {error}")),
+        },
+        ["pairs", file] => match std::fs::read(file) {
+            Ok(bytes) => write(&sheets::text(&bytes)),
             Err(error) => fail(&format!("{file}: {error}")),
         },
         ["answers", count, seed] => {
             write(&answers::answers(number(count) as usize, number(seed)));
         }
         ["compare", scale, seed] => run(number(scale), number(seed)),
+        ["bench"] => bench(false),
+        ["bench", "quick"] => bench(true),
         _ => fail(USAGE),
     }
 }
@@ -66,9 +88,19 @@ fn run(scale: u64, seed: u64) {
     verdict(compare::compare(scale, seed));
 }
 
+#[cfg(face)]
+fn bench(quick: bool) {
+    bench::bench(quick);
+}
+
 #[cfg(not(face))]
 fn run(_scale: u64, _seed: u64) {
-    fail("this oracle was built without the library: set TRESTLEJAY_LIB and build again");
+    fail(WITHOUT);
+}
+
+#[cfg(not(face))]
+fn bench(_quick: bool) {
+    fail(WITHOUT);
 }
 
 fn verdict((passed, failed): (u64, u64)) {

@@ -1,24 +1,25 @@
 //! The proved library's C face: include/trestlejay.h, section Plans. Everything that is lent stands
 //! between guards.
 
+use crate::blank::blank;
 use crate::face::{Raw, GUARD};
-use crate::planning::{blank, Asked, Members, Told};
+use crate::planning::{Asked, Members, Told};
 use crate::symbols::{Symbol, FREE};
 
 /// include/trestlejay.h, tj_plan.
 #[repr(C)]
-struct RawPlan {
-    refusal: u64,
-    value: u64,
-    steps: u64,
-    taken: u64,
-    layers: u64,
-    address: bool,
-    coerced: bool,
+pub struct RawPlan {
+    pub refusal: u64,
+    pub value: u64,
+    pub steps: u64,
+    pub taken: u64,
+    pub layers: u64,
+    pub address: bool,
+    pub coerced: bool,
 }
 
 extern "C" {
-    fn tj_autoderef(
+    pub fn tj_autoderef(
         known: *const u64,
         nknown: usize,
         asked: *const u64,
@@ -36,7 +37,7 @@ extern "C" {
         r#type: *mut u64,
         ntype: usize,
     ) -> RawPlan;
-    fn tj_walk(
+    pub fn tj_walk(
         known: *const u64,
         nknown: usize,
         steps: *const u64,

@@ -2,8 +2,7 @@
 //! has not is written from document 01: the checks of words, steps, rounds and table, the form of the
 //! types, the room of the outputs, and the plain walker.
 
-use crate::face::KEPT;
-use crate::prelude::ValueType;
+use crate::blank::blank;
 use crate::symbols::{in_order, record, taken, Symbol, PART};
 use crate::typer::ask::{plan, Plan, Record, Step};
 use crate::words::*;
@@ -86,11 +85,6 @@ pub struct Planned {
 pub struct Told {
     pub fields: Vec<u64>,
     pub outputs: Vec<Vec<u64>>,
-}
-
-/// An output before the call: no two of its words are equal.
-pub fn blank(count: usize) -> Vec<u64> {
-    (0..count as u64).map(|word| KEPT + word).collect()
 }
 
 fn written(words: &[u64], room: usize) -> Vec<u64> {
@@ -259,36 +253,4 @@ fn go(current: &[Layer], step: &Step, members: &Members) -> Option<Vec<Layer>> {
         (MEMBER, STRUCT | WORD, _) => Some(check(members.typed(step[1])?).expect("a type")),
         _ => None,
     }
-}
-
-/// Where a walk may end on another type than the reported one: the depth is 0, the walk ended on a
-/// View, no line but (vii) applied, and the reported type is that View fully dereferenced.
-pub fn is_excepted(asked: &Asked, made: &Planned, ended: &[u64]) -> bool {
-    let of = |words: &[u64]| -> ValueType { decode(&check(words).expect("a type")) };
-    let (view, target) = (of(ended), of(asked.target));
-    let earlier = target.pointer_depth() == 0
-        && (view == target
-            || view.get_viewee_type().as_ref() == Some(&target)
-            || view.can_coerce_into(&target));
-    asked.depth == 0
-        && ended[0] == VIEW
-        && !earlier
-        && !made.address
-        && !made.coerced
-        && made.reported == encode(&view.fully_dereferenced())
-}
-
-/// Whether the plan's Elements and Members are, marks aside, the first taken steps of those asked.
-pub fn takes_in_order(asked: &Asked, made: &Planned) -> bool {
-    let unmarked = |step: &[u64]| match step[0] {
-        ELEMENT => [ELEMENT, step[1], 0, 0],
-        _ => [step[0], step[1], step[2], step[3]],
-    };
-    let own: Vec<Step> = made.steps.chunks(4).map(unmarked).collect();
-    let own = own.iter().filter(|step| step[0] <= MEMBER);
-    own.copied().eq(asked
-        .steps
-        .chunks(4)
-        .map(unmarked)
-        .take(made.taken as usize))
 }

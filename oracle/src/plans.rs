@@ -3,18 +3,23 @@
 use crate::journeys::{journey, other_steps, Journey};
 use crate::plan_face;
 use crate::planning::*;
+use crate::prelude::ValueType;
 use crate::random::Random;
 use crate::records::Row;
-use crate::symbols::{Symbol, FREE, PART};
-use crate::types::words;
+use crate::small_plans;
+use crate::typer::ask::Step;
 use crate::words::*;
+use std::collections::BTreeMap;
+use std::fmt::Display;
 
 /// The cases of both functions, and of the plans given how many the walker goes to their end.
-struct Plans {
+pub struct Plans {
     plan: Row,
     walk: Row,
     /// How often each number was told.
     numbers: [[u64; 18]; 2],
+    /// How often each number of rounds was asked for, by questions that are good but for that.
+    rounds: BTreeMap<u64, u64>,
     given: u64,
     arrived: u64,
     excepted: u64,
@@ -69,13 +74,16 @@ fn table_told(members: &Members) -> String {
 
 impl Plans {
     /// Asks for a plan, and walks it where it is given.
-    fn ask(&mut self, asked: &Asked) -> Result<Planned, Refusal> {
+    pub fn ask(&mut self, asked: &Asked) -> Result<Planned, Refusal> {
         let judged = judge_plan(asked);
         let rooms = match &judged {
             Ok(made) => [made.steps.len() + 3, made.reported.len() + 2],
             Err(_) => [4, 7],
         };
         self.ask_into(asked, &judged, rooms);
+        if is_good_question(asked, &judged) {
+            *self.rounds.entry(asked.rounds).or_default() += 1;
+        }
         if let Ok(made) = &judged {
             self.demand(asked, made);
         }
@@ -90,7 +98,7 @@ impl Plans {
     }
 
     /// Asks again with outputs that just suffice, and with either of them a word shorter.
-    fn ask_tightly(&mut self, asked: &Asked, judged: &Result<Planned, Refusal>) {
+    pub fn ask_tightly(&mut self, asked: &Asked, judged: &Result<Planned, Refusal>) {
         let Ok(made) = judged else {
             return;
         };
@@ -103,7 +111,7 @@ impl Plans {
         }
     }
 
-    fn walk(
+    pub fn walk(
         &mut self,
         known: &[u64],
         steps: &[u64],
@@ -147,13 +155,12 @@ pub fn compare(scale: u64, random: &mut Random) -> Vec<Row> {
         plan: row("autoderef"),
         walk: row("walk"),
         numbers: [[0; 18]; 2],
+        rounds: BTreeMap::new(),
         given: 0,
         arrived: 0,
         excepted: 0,
     };
-    small(&mut plans);
-    small_walks(&mut plans);
-    long(&mut plans);
+    small_plans::compare(&mut plans);
     for _ in 0..scale * 100_000 {
         along(&mut plans, &journey(random), random);
     }
@@ -161,220 +168,33 @@ pub fn compare(scale: u64, random: &mut Random) -> Vec<Row> {
         "{} plans given: the walker arrives at the reported type of {}, {} are of the exception",
         plans.given, plans.arrived, plans.excepted
     );
+    println!("good questions by rounds: {}", counts(&plans.rounds));
     for (name, numbers) in ["autoderef", "walk"].iter().zip(plans.numbers) {
-        let told = |number: &usize| numbers[*number] > 0;
-        let told = (1..18).filter(told).map(|n| format!("{n}: {}", numbers[n]));
-        println!(
-            "refusals of {name}: {}",
-            told.collect::<Vec<_>>().join(", ")
-        );
+        let told = (1..18).zip(&numbers[1..]).filter(|(_, count)| **count > 0);
+        println!("refusals of {name}: {}", counts(told));
     }
     println!();
     vec![plans.plan, plans.walk]
 }
 
-/// A record of the type at these words, in its part of the store.
-fn typed(id: u32, t: &[u64]) -> (Symbol, Vec<u64>) {
-    let mut part = blank(PART);
-    part[..t.len()].copy_from_slice(t);
-    let symbol = Symbol {
-        id,
-        state: 1,
-        layers: t.len() as u64 / 3,
-        ..FREE
-    };
-    (symbol, part)
+fn counts<'a, N: Display>(all: impl IntoIterator<Item = (N, &'a u64)>) -> String {
+    let told = all
+        .into_iter()
+        .map(|(number, count)| format!("{number}: {count}"));
+    told.collect::<Vec<_>>().join(", ")
 }
 
-const INT32: Layer = [3, 0, 0];
-
-/// Members of the ids 1 to 5: Int32, Pointer to Struct, Slice of Int32, an ill-formed type, poison.
-fn few_members() -> Members {
-    let mut slots = vec![
-        typed(1, &INT32),
-        typed(2, &words(&[[POINTER, 0, 0], [STRUCT, 1, 0]])),
-        typed(3, &words(&[[SLICE, 0, 0], INT32])),
-        typed(4, &words(&[[POINTER, 0, 0], [SLICE, 0, 0], INT32])),
-        typed(5, &INT32),
-        typed(6, &INT32),
-    ];
-    slots[4].0.state = 2;
-    slots[5].0 = FREE;
-    let (table, store): (Vec<Symbol>, Vec<Vec<u64>>) = slots.into_iter().unzip();
-    Members::new(table, store.concat())
-}
-
-/// Steps of every kind and mark, with members of every sort.
-const STEPS: [[u64; 4]; 14] = [
-    [ELEMENT, 7, 0, 0],
-    [ELEMENT, 0, 1, 0],
-    [ELEMENT, 7, 2, 0],
-    [MEMBER, 1, 0, 0],
-    [MEMBER, 2, 1, 0],
-    [MEMBER, 3, 1, u64::MAX],
-    [MEMBER, 4, 0, 0],
-    [MEMBER, 5, 0, 0],
-    [MEMBER, 9, 0, 0],
-    [AUTODESLICE, 0, 0, 0],
-    [AUTODESLICE, 0, 1, 0],
-    [AUTODESLICE, 0, 2, 0],
-    [AUTODEREF, 0, 0, 0],
-    [AUTOVIEW, 0, 0, 0],
-];
-
-/// Every list of no, one and two of these steps.
-fn small_steps() -> Vec<Vec<u64>> {
-    let mut all = vec![Vec::new()];
-    for first in STEPS {
-        all.push(first.to_vec());
-        all.extend(STEPS.iter().map(|second| [first, *second].concat()));
+/// Whether nothing was refused before the walk, rounds aside.
+fn is_good_question(asked: &Asked, judged: &Result<Planned, Refusal>) -> bool {
+    match judged {
+        Err((5, _)) => judge_plan(&Asked {
+            rounds: 0,
+            ..*asked
+        })
+        .is_ok(),
+        Err((number, _)) => (8..12).contains(number),
+        Ok(_) => true,
     }
-    all
-}
-
-/// Types of one and two layers, and well-formed ones of three.
-fn small_types() -> Vec<Vec<u64>> {
-    let leaves = [
-        [0, 0, 0],
-        INT32,
-        [UINT8, 0, 0],
-        [CHAR8, 0, 0],
-        [STRUCT, 1, 0],
-        [WORD, 1, 4],
-        [UNRESOLVED, 0, 0],
-    ];
-    let outers = OUTERS.map(|kind| [kind, 0, if kind == ARRAY { 3 } else { 0 }]);
-    let mut all: Vec<Vec<u64>> = leaves.iter().map(|leaf| leaf.to_vec()).collect();
-    for a in outers {
-        all.extend(leaves.iter().map(|leaf| words(&[a, *leaf])));
-    }
-    for a in outers {
-        for b in outers {
-            for leaf in [INT32, [CHAR8, 0, 0], [STRUCT, 1, 0]] {
-                let t = [a, b, leaf];
-                if decode(&t).is_wellformed() {
-                    all.push(words(&t));
-                }
-            }
-        }
-    }
-    all
-}
-
-const DEPTHS: [u8; 5] = [0, 1, 2, 3, 255];
-
-/// Without asked steps every pair of small types; with one or two, every small type and, where the
-/// walk is not refused, few targets.
-fn small(plans: &mut Plans) {
-    let (types, members) = (small_types(), few_members());
-    for known in &types {
-        for target in &types {
-            for depth in DEPTHS {
-                let asked = Asked {
-                    known,
-                    steps: &[],
-                    target,
-                    depth,
-                    rounds: 64,
-                    members: &members,
-                };
-                let judged = plans.ask(&asked);
-                plans.ask_tightly(&asked, &judged);
-            }
-        }
-    }
-    let targets: [&[Layer]; 10] = [
-        &[INT32],
-        &[[POINTER, 0, 0], INT32],
-        &[[VIEW, 0, 0], INT32],
-        &[[SLICE, 0, 0], INT32],
-        &[[SLICE_POINTER, 0, 0], INT32],
-        &[[POINTER, 0, 0], [ENDLESS, 0, 0], INT32],
-        &[[VIEW, 0, 0], [ENDLESS, 0, 0], INT32],
-        &[[STRUCT, 1, 0]],
-        &[[POINTER, 0, 0], [STRUCT, 1, 0]],
-        &[[VIEW, 0, 0], [STRUCT, 1, 0]],
-    ];
-    for known in &types {
-        for steps in &small_steps()[1..] {
-            ask_depths(plans, known, steps, &INT32, &[0, 1, 2, 3], &members).ok();
-            for target in targets {
-                let refusal = ask_depths(plans, known, steps, &words(target), &[64], &members);
-                if matches!(refusal, Err((4 | 8 | 11, _))) {
-                    break;
-                }
-            }
-        }
-    }
-}
-
-/// Pointers to Arrays, 15 and 16 layers in all, at every depth that one of them can have: an address
-/// of 16 layers is over the limit.
-fn long(plans: &mut Plans) {
-    let members = few_members();
-    for layers in [15, 16] {
-        for pointers in 0..layers {
-            let mut known = vec![[POINTER, 0, 0]; pointers];
-            known.resize(layers - 1, [ARRAY, 0, 3]);
-            known.push(INT32);
-            let mut slice = known.clone();
-            slice[0] = [SLICE_POINTER, 0, 0];
-            for target in [vec![INT32], known.clone(), slice] {
-                for depth in 0..=17 {
-                    let asked = Asked {
-                        known: &words(&known),
-                        steps: &[],
-                        target: &words(&target),
-                        depth,
-                        rounds: 64,
-                        members: &members,
-                    };
-                    let judged = plans.ask(&asked);
-                    plans.ask_tightly(&asked, &judged);
-                }
-            }
-        }
-    }
-}
-
-/// Every small type along no, one and two steps.
-fn small_walks(plans: &mut Plans) {
-    let (types, members) = (small_types(), few_members());
-    for known in &types {
-        for steps in &small_steps() {
-            for address in [false, true] {
-                for short in [0, 2, 3] {
-                    plans.walk(known, steps, address, &members, short).ok();
-                }
-            }
-        }
-    }
-}
-
-/// Every depth; the last answer. What refuses the walk looks at no depth.
-fn ask_depths(
-    plans: &mut Plans,
-    known: &[u64],
-    steps: &[u64],
-    target: &[u64],
-    rounds: &[u64],
-    members: &Members,
-) -> Result<(), Refusal> {
-    let mut last = Ok(());
-    for depth in DEPTHS {
-        for rounds in rounds {
-            let asked = Asked {
-                known,
-                steps,
-                target,
-                depth,
-                rounds: *rounds,
-                members,
-            };
-            last = plans.ask(&asked).map(|_| ());
-        }
-    }
-    last
 }
 
 /// A random question, outputs too short, and walks along its steps, the plan's and others.
@@ -392,4 +212,36 @@ fn along(plans: &mut Plans, journey: &Journey, random: &mut Random) {
             plans.walk(known, &made.steps, address, members, short).ok();
         }
     }
+}
+
+/// Where a walk may end on another type than the reported one: the depth is 0, the walk ended on a
+/// View, no line but (vii) applied, and the reported type is that View fully dereferenced.
+fn is_excepted(asked: &Asked, made: &Planned, ended: &[u64]) -> bool {
+    let of = |words: &[u64]| -> ValueType { decode(&check(words).expect("a type")) };
+    let (view, target) = (of(ended), of(asked.target));
+    let earlier = target.pointer_depth() == 0
+        && (view == target
+            || view.get_viewee_type().as_ref() == Some(&target)
+            || view.can_coerce_into(&target));
+    asked.depth == 0
+        && ended[0] == VIEW
+        && !earlier
+        && !made.address
+        && !made.coerced
+        && made.reported == encode(&view.fully_dereferenced())
+}
+
+/// Whether the plan's Elements and Members are, marks aside, the first taken steps of those asked.
+fn takes_in_order(asked: &Asked, made: &Planned) -> bool {
+    let unmarked = |step: &[u64]| match step[0] {
+        ELEMENT => [ELEMENT, step[1], 0, 0],
+        _ => [step[0], step[1], step[2], step[3]],
+    };
+    let own: Vec<Step> = made.steps.chunks(4).map(unmarked).collect();
+    let own = own.iter().filter(|step| step[0] <= MEMBER);
+    own.copied().eq(asked
+        .steps
+        .chunks(4)
+        .map(unmarked)
+        .take(made.taken as usize))
 }

@@ -40,6 +40,37 @@ pub enum Operation {
     Get,
 }
 
+impl Operation {
+    /// Its place in the header's section Symbols, after the update, which is 0.
+    #[cfg(face)]
+    pub fn number(&self) -> usize {
+        match self {
+            Operation::PutNothing => 1,
+            Operation::PutType(_) => 2,
+            Operation::PutPoison(_) => 3,
+            Operation::DeclareType(_) => 4,
+            Operation::DeclarePoison(_) => 5,
+            Operation::Get => 6,
+        }
+    }
+
+    /// The offered words; none where no type is offered.
+    pub fn offered(&self) -> &[u64] {
+        match self {
+            Operation::PutType(words) | Operation::DeclareType(words) => words,
+            _ => &[],
+        }
+    }
+
+    /// The mark of the poison, else 0.
+    pub fn mark(&self) -> u64 {
+        match self {
+            Operation::PutPoison(mark) | Operation::DeclarePoison(mark) => *mark,
+            _ => 0,
+        }
+    }
+}
+
 #[derive(Debug, Clone, PartialEq)]
 pub struct Asked {
     pub operation: Operation,

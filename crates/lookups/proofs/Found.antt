@@ -2,7 +2,7 @@
 -- Assumes nothing.
 use mathlib.Core.Path.{_≡_, refl, sym, ap, subst, _∙_}
 use mathlib.Core.Bool.{Bool, true, false, cond, not, false≢true}
-use mathlib.Core.List.{List, []}
+use mathlib.Core.List.{List}
 use Prim.Native.Nat.{ℕ, _+_, _-_, _*_, _/_, _≤_, _<_}
 use native.Mathlib.Omega.{arith}
 use lib.Dec.{eqb, leb}
@@ -16,7 +16,6 @@ use Rattle.columns.proofs.Reading.{length-read, row-found}
 use Rattle.columns.proofs.Searching.{slot-has}
 use Rattle.orders.proofs.Ordered.{ordered, few-rows, slot-there}
 use Rattle.answers.specs.declared.flat.Answer.{Answer}
-use Rattle.answers.specs.Flat.{accepted, notAccepted}
 use Rattle.lookups.specs.Gets.{markFor, got, told, foundAfter, storedType, typeIn, typeOf}
 use Rattle.lookups.specs.declared.get.Got.{Got}
 use Rattle.lookups.specs.declared.get.Got.the-variants as got′

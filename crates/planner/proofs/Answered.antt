@@ -1,6 +1,6 @@
 -- A report without a refusal is that of a plan: there is always an answer, and no refusal is 0.
 -- Assumes nothing.
-use mathlib.Core.Path.{_≡_, refl, sym, ap, subst, _∙_}
+use mathlib.Core.Path.{_≡_, refl, sym, ap, _∙_}
 use mathlib.Core.Bool.{Bool, true, false, cond, not, false≢true, _&&_, _||_}
 use mathlib.Core.List.{List, [], _∷_}
 use Prim.Native.Nat.{ℕ, zero, suc, _+_, _/_, _%_}
@@ -23,9 +23,9 @@ use Rattle.turns.specs.Settling.{Settled, plainly, settle, settleOtherwise}
 use Rattle.walker.specs.Walker.{Stored, typed, absent}
 use Rattle.walker.specs.Members.{members}
 use Rattle.planner.specs.Walk.{Walk, ended, stopped, stepsOf, takenBy, memberType, goes, turnOf, onward, walk}
-use Rattle.planner.specs.Plan.{Plan, narrow, withSettling, settleWalk, planOf}
+use Rattle.planner.specs.Plan.{Plan, withSettling, settleWalk, planOf}
 use Rattle.planner.specs.Report.{delivered, told}
-use Rattle.planner.specs.Answers.{limits, question, planned, planAnswer}
+use Rattle.planner.specs.Answers.{question, planned, planAnswer}
 
 abbrev tells : {A : Type 0} → Answer A → Bool
 tells (given x) = true

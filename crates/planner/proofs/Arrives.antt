@@ -1,25 +1,25 @@
 -- The third demand holds of every plan that is given.
 -- Assumes nothing.
-use mathlib.Core.Path.{_≡_, refl, sym, ap, subst, _∙_}
+use mathlib.Core.Path.{_≡_, refl, subst, _∙_}
 use mathlib.Core.Bool.{Bool, true, false, cond, not}
 use mathlib.Core.Logic.{_⊎_, inl, inr, ⊎-elim}
-use mathlib.Core.List.{List, [], _∷_, _++_, map, append-nil}
+use mathlib.Core.List.{List, _++_, append-nil}
 use Prim.Native.Nat.{ℕ}
 use lib.Dec.{ltb}
-use lib.ListN.{length, take, drop}
+use lib.ListN.{length}
 use Rattle.layers.specs.Layers.{Layer}
 use Rattle.layers.specs.Answer.{Answer, given, nothing, refused}
 use Rattle.forms.specs.Formed.{wellFormed}
 use Rattle.steps.specs.Steps.{Step}
 use Rattle.turns.specs.Settling.{Settled, settle}
 use Rattle.layers.proofs.Given.{not-given, nothing-given, given-is}
-use Rattle.walker.specs.Walker.{at, Stored, typed, walker, arrives}
+use Rattle.walker.specs.Walker.{Stored, typed, arrives}
 use Rattle.planner.specs.Walk.{Walk, ended, stopped, walk}
-use Rattle.planner.specs.Plan.{Plan, narrow, withSettling, settleWalk, planOf}
-use Rattle.planner.specs.Demand.{asked, unmarked, usedUp, Hidden, Demand}
+use Rattle.planner.specs.Plan.{Plan, withSettling, settleWalk, planOf}
+use Rattle.planner.specs.Demand.{Hidden, Demand}
 use Rattle.planner.proofs.Walks.{asked-append, walker-append, walks, in-order, all-taken}
 use Rattle.layers.proofs.Accepted.{goodLayers}
-use Rattle.planner.proofs.Sound.{Sound, walk-sound}
+use Rattle.planner.proofs.Sound.{walk-sound}
 use Rattle.planner.proofs.Settles.{Exception, settles, asks-nothing}
 
 module _ (stored : ℕ → Stored) (members : (id : ℕ) (t : List Layer) → stored id ≡ typed t → goodLayers t ≡ true)

@@ -1,15 +1,14 @@
 -- The answer to a question, by what its checks said.
 -- Assumes nothing.
-use mathlib.Core.Path.{_≡_, refl, sym, ap, _∙_}
-use mathlib.Core.Bool.{Bool, true, false, cond, not, true≢false}
+use mathlib.Core.Path.{_≡_, refl, sym, _∙_}
+use mathlib.Core.Bool.{Bool, true, false, cond, not}
 use mathlib.Core.List.{List}
 use Prim.Native.Nat.{ℕ, _/_, _≤_, _<_}
-use native.Mathlib.Omega.{arith}
 use lib.Dec.{ltb}
 use lib.ListN.{length}
 use borrow.Author.Tests.{lt-ltb, le-ltb, ltb-false, not-true, not-false}
 use Rattle.layers.specs.Layers.{layers}
-use Rattle.layers.specs.Answer.{Answer, given, nothing, refused, next, ofChecked}
+use Rattle.layers.specs.Answer.{Answer, given, refused, next, ofChecked}
 use Rattle.layers.specs.Check.{Place, at, nowhere, badCount, badLayer, misplaced, unless, checkOf}
 use Rattle.layers.specs.declared.answers.Checked.{Checked}
 use Rattle.layers.specs.declared.answers.Checked.the-variants.{Good, Refused}
@@ -23,12 +22,10 @@ use Rattle.orders.specs.Order.{inOrder}
 use Rattle.columns.proofs.Reading.{length-read}
 use Rattle.tables.proofs.Gathering.{swapped}
 use Rattle.orders.proofs.Ordered.{ordered, too-long}
-use Rattle.steps.specs.Steps.{steps, stepsAnswer}
-use Rattle.walker.specs.Walker.{Stored}
-use Rattle.walker.specs.Members.{memberIn, ofLayers, members, memberWords}
+use Rattle.steps.specs.Steps.{stepsAnswer}
+use Rattle.walker.specs.Members.{memberIn, ofLayers, members}
 use Rattle.walker.proofs.Storing.{at-most, member-whole}
-use Rattle.planner.specs.Walk.{walk}
-use Rattle.planner.specs.Plan.{Plan, planOf, settleWalk}
+use Rattle.planner.specs.Plan.{Plan, planOf}
 use Rattle.planner.specs.Report.{delivered, notGiven}
 use Rattle.planner.specs.Finish.{AllWhole, walked}
 use Rattle.planner.specs.Answers.{limits, question, planned, planAnswer}

@@ -2,8 +2,8 @@
 -- Assumes nothing.
 use mathlib.Core.Path.{_≡_, refl, sym, ap, subst, _∙_}
 use mathlib.Core.Bool.{Bool, true, false, cond, _||_, true≢false, false≢true}
-use mathlib.Core.List.{List, [], _∷_, _++_}
-use Prim.Native.Nat.{ℕ, _*_, _/_, _≤_, _<_}
+use mathlib.Core.List.{List, [], _∷_}
+use Prim.Native.Nat.{ℕ, _*_, _/_, _≤_}
 use lib.Dec.{leb, ltb}
 use lib.ListN.{length, take, drop, getD, List·getD-eq-default}
 use lib.Seq.{take-at}
@@ -29,7 +29,7 @@ use Rattle.walker.specs.Members.{ofLayers, members, memberWords}
 use Rattle.planner.specs.declared.report.Report.{Report}
 use Rattle.planner.specs.Plan.{Plan, planOf}
 use Rattle.planner.specs.Report.{delivered, told, stepsOver, typeOver, planRead}
-use Rattle.planner.specs.Answers.{limits, question, planned, planAnswer}
+use Rattle.planner.specs.Answers.{limits, planned, planAnswer}
 use Rattle.planner.specs.Demand.{Demand}
 use Rattle.planner.proofs.Delivering.{second-fits}
 use Rattle.planner.proofs.Asking.{passed}

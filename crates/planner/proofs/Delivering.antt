@@ -1,9 +1,9 @@
 -- The report and the two outputs, by what became of the plan.
 -- Assumes nothing.
 use mathlib.Core.Path.{_≡_, refl, sym, ap, _∙_}
-use mathlib.Core.Bool.{Bool, true, false, cond, _||_, true≢false}
-use mathlib.Core.List.{List, [], _∷_, _++_}
-use Prim.Native.Nat.{ℕ, zero, suc, _+_, _*_, _-_, _/_, _%_, _≤_, _<_}
+use mathlib.Core.Bool.{Bool, true, false, _||_, true≢false}
+use mathlib.Core.List.{List, _∷_, _++_}
+use Prim.Native.Nat.{ℕ, zero, suc, _+_, _*_, _-_, _/_, _≤_, _<_}
 use native.Mathlib.Omega.{arith}
 use lib.Dec.{ltb}
 use lib.ListN.{length, take, replicate, length-append, length-replicate}
@@ -20,7 +20,7 @@ use Rattle.steps.proofs.Words.{words-length, words-whole}
 use Rattle.turns.specs.Settling.{pointer}
 use Rattle.planner.specs.declared.report.Report.{Report}
 use Rattle.planner.specs.declared.ending.Ending.{Ending}
-use Rattle.planner.specs.Plan.{Plan, narrow}
+use Rattle.planner.specs.Plan.{Plan}
 use Rattle.planner.specs.Report.{delivered, notGiven, told, stepsOver, typeOver}
 use Rattle.planner.specs.Ending.{planned}
 

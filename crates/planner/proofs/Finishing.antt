@@ -2,15 +2,15 @@
 -- Assumes nothing.
 use mathlib.Core.Path.{_≡_, refl, sym, ap, _∙_}
 use mathlib.Core.Bool.{Bool, true, false, cond, true≢false, false≢true}
-use mathlib.Core.List.{List, [], _∷_, _++_, append-nil}
-use Prim.Native.Nat.{ℕ, zero, suc, _+_, _*_, _-_, _%_, _≤_, _<_}
+use mathlib.Core.List.{List, [], _∷_, _++_}
+use Prim.Native.Nat.{ℕ, _+_, _*_, _-_, _%_, _≤_}
 use native.Mathlib.Omega.{arith}
 use lib.Dec.{eqb}
-use lib.ListN.{length, take, drop, replicate, length-drop}
+use lib.ListN.{length, take, replicate, length-drop}
 use lib.Seq.{length-take-le}
 use Rattle.kinds.specs.Kind as kind
 use Rattle.layers.specs.Layers.{Layer, layers}
-use Rattle.layers.specs.Answer.{Answer, given, refused}
+use Rattle.layers.specs.Answer.{refused}
 use Rattle.layers.proofs.Accepted.{Whole}
 use Rattle.layers.proofs.Spelling.{spelled-length, spelled-layers, layers-drop}
 use Rattle.parts.specs.Parts.{references, fullyDereferenced}
@@ -19,9 +19,9 @@ use Rattle.steps.specs.Steps.{Step, step, steps, stepWords}
 use Rattle.steps.proofs.Words.{words-append, words-back, words-whole}
 use Rattle.turns.specs.declared.settlement.Settling.{Settling}
 use Rattle.turns.specs.declared.settlement.Settling.the-variants as settling
-use Rattle.turns.specs.Settling.{Settled, settle, ofSettling}
+use Rattle.turns.specs.Settling.{settle, ofSettling}
 use Rattle.planner.specs.declared.ending.Ending.{Ending}
-use Rattle.planner.specs.Plan.{Plan, withSettling}
+use Rattle.planner.specs.Plan.{withSettling}
 use Rattle.planner.specs.Report.{delivered}
 use Rattle.planner.specs.Finish.{finished}
 use Rattle.planner.specs.Ending.{endingOf, bodyOf, planned}

@@ -5,16 +5,13 @@ use mathlib.Core.Path.{_≡_, refl, sym, ap, _∙_}
 use mathlib.Core.Bool.{Bool, true, false, cond}
 use mathlib.Core.List.{List, [], _∷_, map}
 use Prim.Native.Nat.{ℕ}
-use lib.Dec.{eqb}
 use lib.ListN.{take, drop}
 use Rattle.kinds.specs.Kind as kind
-use Rattle.layers.specs.Layers.{Layer, outer, inside, isReference}
+use Rattle.layers.specs.Layers.{Layer, outer, inside}
 use Rattle.layers.specs.Answer.{given, refused}
 use Rattle.forms.specs.Formed.{wellFormed}
-use Rattle.steps.specs.StepKind as of-step
 use Rattle.steps.specs.Steps.{Step}
 use Rattle.turns.specs.declared.turn.Turn.{Turn}
-use Rattle.turns.specs.declared.turn.Turn.the-variants.{Stuck, Auto, Element, Desliced, Member}
 use Rattle.layers.proofs.Given.{not-given, given-is}
 use Rattle.turns.proofs.Cases.{cases}
 use Rattle.walker.specs.Walker.{at, Stored, typed, absent, act, walker}

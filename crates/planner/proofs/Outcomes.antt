@@ -1,15 +1,13 @@
 -- The plan of a walk, by how the walk ended.
 -- Assumes nothing.
-use mathlib.Core.Path.{_≡_, refl, sym, ap, _∙_}
+use mathlib.Core.Path.{_≡_, refl}
 use mathlib.Core.List.{List}
 use Prim.Native.Nat.{ℕ}
 use lib.ListN.{length}
 use Rattle.layers.specs.Layers.{Layer, layers}
-use Rattle.layers.specs.Answer.{refused}
 use Rattle.steps.specs.Steps.{steps}
 use Rattle.walker.specs.Members.{ofLayers}
 use Rattle.planner.specs.Walk.{ended, stopped, walk}
-use Rattle.planner.specs.Plan.{settleWalk}
 use Rattle.planner.specs.Report.{delivered, notGiven}
 use Rattle.planner.specs.Finish.{finished, walked}
 use Rattle.planner.proofs.Delivering.{Told, refuses}

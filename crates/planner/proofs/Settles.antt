@@ -1,26 +1,24 @@
 -- The settling's steps, and the address if flagged, lead the walker from the current type to the reported one; but for the
 -- View that line (vii) dereferences without a step.
 -- Assumes nothing.
-use mathlib.Core.Path.{_≡_, refl, sym, ap, _∙_}
-use mathlib.Core.Bool.{Bool, true, false, cond, not, _&&_, _||_, or-true, false≢true}
-use mathlib.Core.Logic.{_⊎_, inl, inr, ⊎-elim}
+use mathlib.Core.Path.{_≡_, refl, ap}
+use mathlib.Core.Bool.{Bool, true, false, _&&_, false≢true}
+use mathlib.Core.Logic.{_⊎_, inl, inr}
 use mathlib.Core.List.{List, [], _∷_, _++_}
 use Prim.Native.Nat.{ℕ, zero, suc, _+_, _-_, _≤_}
 use native.Mathlib.Numerals.{add-one}
 use native.Mathlib.Omega.{arith}
-use lib.Dec.{eqb, ltb, leb}
+use lib.Dec.{eqb}
 use lib.ListN.{drop, replicate}
-use borrow.Author.Tests.{eqb-true, eqb-false, leb-false}
+use borrow.Author.Tests.{eqb-true}
 use Rattle.kinds.specs.Kind as kind
-use Rattle.layers.specs.Layers.{Layer, layer, outer, inside, isArray, isReference, holdsInner}
-use Rattle.layers.specs.Answer.{Answer, given, refused}
+use Rattle.layers.specs.Layers.{Layer, layer, outer, inside}
+use Rattle.layers.specs.Answer.{given}
 use Rattle.layers.specs.Check.{goodLayer}
 use Rattle.parts.specs.Parts.{references}
 use Rattle.sizes.specs.Depth.{pointerDepth}
 use Rattle.forms.specs.Formed.{inner, wellFormed}
-use Rattle.relations.specs.Relations.{identical}
 use Rattle.relations.proofs.Theorems.{identical-equal}
-use Rattle.coercions.specs.Coercions.{coerces, addressCoerces}
 use Rattle.layers.proofs.Decide.{both}
 use Rattle.steps.specs.StepKind as of-step
 use Rattle.steps.specs.Steps.{Step, step}

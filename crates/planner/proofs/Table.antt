@@ -16,7 +16,7 @@ use Rattle.steps.specs.StepKind as of-step
 use Rattle.steps.specs.Steps.{Step, step}
 use Rattle.turns.specs.Turns.{turn}
 use Rattle.turns.specs.Settling.{settleOtherwise, settle}
-use Rattle.walker.specs.Walker.{Stored, absent}
+use Rattle.walker.specs.Walker.{absent}
 use Rattle.planner.specs.Walk.{walk}
 use Rattle.planner.specs.Plan.{Plan, planOf}
 

@@ -9,12 +9,10 @@ use native.Mathlib.Nat.{add-assoc, add-zero, zero-add, sub-zero}
 use native.Mathlib.Omega.{arith}
 use lib.Dec.{leb}
 use borrow.Author.Tests.{leb-true, leb-false}
-use lib.ListN.{length, take, drop, length-append, length-drop, drop-of-length-le}
-use lib.Seq.{drop-drop, drop-nil}
-use Rattle.layers.specs.Layers.{Layer, layers, outer, inside}
-use Rattle.layers.specs.Answer.{Answer, given, refused}
+use lib.ListN.{length, take, drop, length-append, drop-of-length-le}
+use Rattle.layers.specs.Layers.{Layer, layers, outer}
+use Rattle.layers.specs.Answer.{given, refused}
 use Rattle.layers.proofs.Words.{inner-layers}
-use Rattle.layers.proofs.Accepted.{Whole}
 use Rattle.steps.specs.Steps.{Step, steps, stepWords}
 use Rattle.steps.proofs.Words.{stepAt, steps-none, steps-more, words-append, words-back}
 use Rattle.turns.specs.declared.turn.Turn.{Turn}
@@ -22,7 +20,7 @@ use Rattle.turns.specs.declared.turn.Turn.the-variants.{Stuck, Auto, Element, D
 use Rattle.turns.specs.Turns.{turn}
 use Rattle.walker.specs.Walker.{Stored}
 use Rattle.walker.specs.Members.{ofLayers}
-use Rattle.planner.specs.Walk.{Walk, ended, stopped, stepsOf, takenBy, goes, turnOf, prepend, onward, walk}
+use Rattle.planner.specs.Walk.{Walk, ended, stopped, stepsOf, takenBy, goes, turnOf, prepend, walk}
 use Rattle.planner.specs.Rounds.{onto, refusal}
 use Rattle.planner.proofs.Pushing.{Pushed}
 use Rattle.planner.proofs.Going.{going}

@@ -1,7 +1,7 @@
 -- What a walk that has ended tells: the walker goes its steps from the known type to the current one; the asked steps
 -- among them are the first ones that were asked, in order; and they are all of them, or the rounds were used up.
 -- Assumes nothing.
-use mathlib.Core.Path.{_≡_, refl, sym, ap, subst, _∙_}
+use mathlib.Core.Path.{_≡_, refl, sym, subst, _∙_}
 use mathlib.Core.Bool.{Bool, true, false, cond}
 use mathlib.Core.Logic.{_⊎_, inl, inr, ⊎-elim}
 use mathlib.Core.List.{List, [], _∷_, _++_, map, map-append}

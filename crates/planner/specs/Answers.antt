@@ -1,11 +1,11 @@
 -- A plan for any words, tables and numbers: "Types are checked 1, 2 (all layers), 3, left before right; then 5, 12, 13, 4
 -- (known, target) ...; then the walk (8, 11, 4 for a member's type), the settling, 15, 14."
-use mathlib.Core.Bool.{cond, not}
+use mathlib.Core.Bool.{cond}
 use mathlib.Core.List.{List}
 use Prim.Native.Nat.{ℕ}
 use lib.Dec.{ltb}
 use Rattle.layers.specs.Layers.{layers}
-use Rattle.layers.specs.Answer.{Answer, given, refused, next}
+use Rattle.layers.specs.Answer.{Answer, refused, next}
 use Rattle.layers.specs.Check.{checkOf}
 use Rattle.columns.specs.declared.symbol.Symbol.{Symbol}
 use Rattle.orders.specs.Order.{inOrder}

@@ -3,7 +3,6 @@ use crate::ending::pointers;
 use crate::report::Report;
 use buffers::write_words;
 ghost use mathlib.Core.Path.{_≡_};
-ghost use mathlib.Core.List.{_++_};
 ghost use Prim.Native.Nat.{_*_, _≤_};
 ghost use lib.ListN.{length, take};
 ghost use Rattle.layers.proofs.Accepted.{Whole};

@@ -7,7 +7,6 @@ use layers::check_type;
 use orders::in_order;
 use steps::check_steps;
 ghost use mathlib.Core.Path.{_≡_};
-ghost use mathlib.Core.Bool.{true};
 ghost use Prim.Native.Nat.{_≤_};
 ghost use lib.ListN.{length};
 ghost use Rattle.layers.specs.Answer.{ofChecked};

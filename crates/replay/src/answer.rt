@@ -1,20 +1,28 @@
+use crate::lent::BEFORE;
+use crate::runs::word;
 use trestlejay::Answer;
 
-// What was answered, with what was written behind the pointers that were lent.
-pub(crate) struct Got {
+// What the Rust answered.
+pub(crate) struct Expected {
     pub refusal: u64,
     pub value: u64,
-    pub first: u64,
-    pub second: u64,
 }
 
-// What stands behind the pointers before the call.
-pub(crate) const BEFORE: u64 = 7777;
+// Whether an answer is the Rust's.
+pub(crate) fn told(a: Answer, e: Expected) -> bool {
+    (a.refusal == e.refusal) & (a.value == e.value)
+}
 
-fn plain(a: Answer) -> Got {
+// What was answered, with what was written behind the pointers that were lent.
+struct Got {
+    answer: Answer,
+    first: u64,
+    second: u64,
+}
+
+fn plain(answer: Answer) -> Got {
     Got {
-        refusal: a.refusal,
-        value: a.value,
+        answer,
         first: BEFORE,
         second: BEFORE,
     }
@@ -57,15 +65,14 @@ fn part(f: u64, t: &[u64]) -> Answer {
 fn measure(f: u64, t: &[u64]) -> Got {
     let mut first = BEFORE;
     let mut second = BEFORE;
-    let a = match f {
+    let answer = match f {
         19 => trestlejay::tj_known_size_in_bytes_as_word_member(t, &mut first),
         20 => trestlejay::tj_stored_size(t, &mut first),
         21 => trestlejay::tj_min_i128(t, &mut first, &mut second),
         _ => trestlejay::tj_max_u128(t, &mut first, &mut second),
     };
     Got {
-        refusal: a.refusal,
-        value: a.value,
+        answer,
         first,
         second,
     }
@@ -86,7 +93,7 @@ fn relation(f: u64, a: &[u64], b: &[u64]) -> Answer {
 }
 
 // The answer to a question by the function's number, in the header's order.
-pub(crate) fn ask(f: u64, a: &[u64], b: &[u64]) -> Got {
+fn ask(f: u64, a: &[u64], b: &[u64]) -> Got {
     if f < 7 {
         return plain(property(f, a));
     }
@@ -100,4 +107,20 @@ pub(crate) fn ask(f: u64, a: &[u64], b: &[u64]) -> Got {
         return measure(f, a);
     }
     plain(relation(f, a, b))
+}
+
+// Whether the answer to a question about types, and what stands behind the pointers, are the Rust's.
+pub(crate) fn answers(f: u64, a: &[u64], b: &[u64], written: &[u64], e: Expected) -> bool {
+    let got = ask(f, a, b);
+    let first = if written.len() > 0 {
+        word(written, 0)
+    } else {
+        BEFORE
+    };
+    let second = if written.len() > 1 {
+        word(written, 1)
+    } else {
+        BEFORE
+    };
+    told(got.answer, e) & (got.first == first) & (got.second == second)
 }

@@ -1,16 +1,62 @@
-use crate::answer::BEFORE;
-use crate::answer::Got;
-use crate::answer::ask;
-use crate::fixing::Expected;
+use crate::answer::Expected;
+use crate::answer::answers;
+use crate::changing::UPDATE;
+use crate::changing::operates;
+use crate::changing::updates;
 use crate::fixing::FIXING;
 use crate::fixing::fixes;
-use crate::read::number;
-use crate::read::numbers;
-use crate::read::room;
+use crate::planning::AUTODEREF;
+use crate::planning::WALK;
+use crate::planning::plans;
+use crate::planning::walks;
+use crate::read::line;
+use crate::runs::after;
+use crate::runs::first;
+use crate::runs::from;
+use crate::runs::run;
+use crate::runs::word;
 ghost use Prim.Native.Nat.{_≤_, _<_};
 ghost use lib.ListN.{length};
 
 const OUT: i32 = 1;
+
+// A question that is lent a table: after the numbers the target, the steps and the table.
+fn agrees(f: u64, a: &[u64], rest: &[u64], stored: &[u64], e: Expected) -> bool {
+    let b = run(rest);
+    let to_target = after(rest);
+    let to_steps = after(to_target);
+    let table = after(to_steps);
+    if f == UPDATE {
+        return updates(table, a, b, stored, e);
+    }
+    if f == AUTODEREF {
+        return plans(table, a, b, run(to_target), run(to_steps), stored, e);
+    }
+    if f == WALK {
+        return walks(table, a, b, run(to_steps), stored, e);
+    }
+    operates(f, table, a, b, stored, e)
+}
+
+// A line: question, refusal, value, then the runs written, a and b, and more.
+fn agreed(all: &[u64]) -> bool {
+    let f = word(all, 0);
+    let e = Expected {
+        refusal: word(all, 1),
+        value: word(all, 2),
+    };
+    let to_written = from(all, 3);
+    let to_a = after(to_written);
+    let to_b = after(to_a);
+    let words = run(to_written);
+    if f < FIXING {
+        return answers(f, run(to_a), run(to_b), words, e);
+    }
+    if f == FIXING {
+        return fixes(run(to_a), run(to_b), words, e);
+    }
+    agrees(f, run(to_a), to_b, words, e)
+}
 
 // A case: whether the answers agree, and where the next one starts.
 struct Case {
@@ -18,62 +64,15 @@ struct Case {
     next: usize,
 }
 
-fn agrees(got: Got, e: Expected, words: &[u64; 64]) -> bool {
-    let first = if e.written > 0 { words[0] } else { BEFORE };
-    let second = if e.written > 1 { words[1] } else { BEFORE };
-    (got.refusal == e.refusal)
-        & (got.value == e.value)
-        & (got.first == first)
-        & (got.second == second)
-}
-
-// The first words of a buffer.
-fn first(words: &[u64], n: usize) -> &[u64] {
-    if n <= words.len() { &words[..n] } else { words }
-}
-
-fn agreed(
-    f: u64,
-    left: &[u64; 64],
-    na: usize,
-    right: &[u64; 64],
-    nb: usize,
-    words: &[u64; 64],
-    e: Expected,
-) -> bool {
-    if f == FIXING {
-        return fixes(first(left, na), right, words, e);
-    }
-    agrees(ask(f, first(left, na), first(right, nb)), e, words)
-}
-
 fn case_at(s: &[u8], at: usize) -> Case
     requires { ⌜ at < length (now s) ⌝ }
     ensures { λ r. ⌜ (at < r .next) × (r .next ≤ length (now (s .entry))) ⌝ }
 {
-    let mut words = [0u64; 64];
-    let mut left = [0u64; 64];
-    let mut right = [0u64; 64];
-    let function = number(s, at);
-    let refusal = number(s, function.next);
-    let value = number(s, refusal.next);
-    let written = number(s, value.next);
-    let count = room(written.value);
-    let after = numbers(s, written.next, count, &mut words);
-    let lefts = number(s, after);
-    let na = room(lefts.value);
-    let rest = numbers(s, lefts.next, na, &mut left);
-    let rights = number(s, rest);
-    let nb = room(rights.value);
-    let next = numbers(s, rights.next, nb, &mut right);
-    let expected = Expected {
-        refusal: refusal.value,
-        value: value.value,
-        written: count,
-    };
+    let mut words = [0u64; 1024];
+    let l = line(s, at, &mut words);
     Case {
-        same: agreed(function.value, &left, na, &right, nb, &words, expected),
-        next,
+        same: agreed(first(&words, l.count)),
+        next: l.next,
     }
 }
 
@@ -91,7 +90,7 @@ fn summary(cases: u64, failed: u64) {
 }
 
 // Compares every case, and writes how many there were and how many differ.
-pub(crate) fn run(s: &[u8]) {
+pub(crate) fn run_all(s: &[u8]) {
     let mut at = 0;
     let mut cases: u64 = 0;
     let mut failed: u64 = 0;

@@ -1,19 +1,19 @@
-use crate::answer::BEFORE;
-use crate::read::room;
+use crate::answer::Expected;
+use crate::answer::told;
+use crate::lent::blank;
+use crate::lent::written;
+use crate::runs::same;
+use crate::runs::word;
 use trestlejay::Answer;
 
 // The question's number.
 pub(crate) const FIXING: u64 = 32;
 
-// What was answered about a type: the two fields of the answer, and how many words were written.
-pub(crate) struct Expected {
-    pub refusal: u64,
-    pub value: u64,
-    pub written: usize,
-}
-
-// Fixes a type into the first words of a buffer.
-fn fix(t: &[u64], external: bool, context: u64, out: &mut [u64], n: usize) -> Answer {
+// Fixes a type into the first words of a buffer. The flags: 1 where the type is extern, the context, the words lent.
+fn fix(t: &[u64], flags: &[u64], out: &mut [u64]) -> Answer {
+    let external = word(flags, 0) == 1;
+    let context = word(flags, 1);
+    let n = word(flags, 2) as usize;
     if n < out.len() {
         trestlejay::tj_fix_type_for_flags(t, external, context, &mut out[..n])
     } else {
@@ -21,21 +21,9 @@ fn fix(t: &[u64], external: bool, context: u64, out: &mut [u64], n: usize) -> An
     }
 }
 
-// Whether a buffer holds the words that were written, and after them what stood there before.
-fn holds(out: &[u64; 64], words: &[u64; 64], written: usize) -> bool {
-    let mut same = true;
-    let mut i = 0;
-    while i < 64 {
-        let word = if i < written { words[i] } else { BEFORE };
-        same = same & (out[i] == word);
-        i += 1;
-    }
-    same
-}
-
-// Whether the answer and every word of the buffer are the Rust's. The flags: 1 where the type is extern, the context, the words lent.
-pub(crate) fn fixes(t: &[u64], flags: &[u64; 64], words: &[u64; 64], e: Expected) -> bool {
-    let mut out = [BEFORE; 64];
-    let a = fix(t, flags[0] == 1, flags[1], &mut out, room(flags[2]));
-    (a.refusal == e.refusal) & (a.value == e.value) & holds(&out, words, e.written)
+// Whether the answer and every word of the buffer are the Rust's.
+pub(crate) fn fixes(t: &[u64], flags: &[u64], words: &[u64], e: Expected) -> bool {
+    let mut out = blank();
+    let a = fix(t, flags, &mut out);
+    told(a, e) & same(&out, &written(words))
 }

@@ -1,23 +1,34 @@
 // Replays answers that the Rust gave, from standard input, and compares. Each line is a case, in decimal numbers:
-// function, refusal, value, count of words written and these, count of the left type's words and these, and so the right's. For fixing,
-// the flags stand in place of the right type: 1 where the type is extern, the context, the words lent.
+//
+//     question, refusal, value, written, a, b
+//
+// where written, a and b are runs, each a count and so many words. Behind them lines about symbols and plans have the runs target and
+// steps, and a table: a count of records, and of each its six fields and the run of words that stand in its part of the store.
+//
+// 0 to 31 ask about the type a, or about a and b, in the header's order. Written is what stands behind the pointers.
+// 32 fixes a. b: 1 where it is extern, the context, the words lent. Written is the type.
+// 33 updates the table's only record, lent alone, by the offered type a. b: id, authority, place, mark, the store's words.
+// 34 to 39 put nothing, a type, poison, forward declare a type, poison, and get; a and b as above.
+//    Of these, written is the slot with the record's fields and words where one is stored; of get, what was found.
+// 40 plans from a. b: depth, rounds, the words lent for the steps and for the type, the store's words.
+//    Written is steps, taken, layers, address, coerced, then the steps' words and the type's.
+// 41 walks from a. b: the address, the words lent, two that are 0, the store's words. Written is the type.
 mod answer;
+mod changing;
 mod compare;
 mod fixing;
+mod lent;
+mod planning;
 mod read;
-
-ghost use mathlib.Core.Path.{_≡_};
-ghost use lib.ListN.{length};
+mod runs;
 
 // Room for the whole list.
-fn buffer() -> [u8; 262144]
-    ensures { λ r. ⌜ 262144 ≡ length r ⌝ }
-{
-    [0; 262144]
+fn buffer() -> [u8; 1048576] {
+    [0; 1048576]
 }
 
 fn main() {
     let mut text = buffer();
     let n = io::read_full(0, &mut text);
-    compare::run(&text[..n]);
+    compare::run_all(&text[..n]);
 }

@@ -1,5 +1,5 @@
 -- How a step is written, and which runs of words are runs of steps.
-use mathlib.Core.Bool.{Bool, true, cond, not, _&&_, _||_}
+use mathlib.Core.Bool.{Bool, true, cond, _&&_, _||_}
 use mathlib.Core.List.{List, [], _∷_, _++_}
 use Prim.Native.Nat.{ℕ, _+_, _/_, _%_, _-_, _^_}
 use lib.Dec.{eqb, leb}

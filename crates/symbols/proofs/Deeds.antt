@@ -11,7 +11,7 @@ use lib.ListN.{length, take, drop}
 use lib.Seq.{take-append-seam, drop-append-add, drop-drop}
 use borrow.Author.Tests.{le-leb}
 use Rattle.layers.specs.Answer as paper
-use Rattle.layers.specs.Answer.{given, nothing, refused}
+use Rattle.layers.specs.Answer.{given, refused}
 use Rattle.layers.specs.Layers.{layers}
 use Rattle.layers.specs.Check as check
 use Rattle.layers.specs.Check.{Place, at, nowhere, badCount, badLayer, misplaced, checkOf}

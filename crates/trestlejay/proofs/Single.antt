@@ -53,6 +53,8 @@ use Rattle.trestlejay.proofs.pairs.tj_can_coerce_address_into.Reads as 
 use Rattle.trestlejay.proofs.pairs.tj_can_autoderef_into.Reads as tj-can-autoderef-into
 use Rattle.trestlejay.proofs.pairs.tj_can_subautoderef_into.Reads as tj-can-subautoderef-into
 use Rattle.trestlejay.proofs.fixing.tj_fix_type_for_flags.Reads as tj-fix-type-for-flags
+use Rattle.trestlejay.proofs.sheet.tj_read_sheet.Kinds as of-sheet
+use Rattle.trestlejay.proofs.sheet.tj_read_sheet.Reads as tj-read-sheet
 use Rattle.trestlejay.proofs.records.tj_update_symbol as tj-update-symbol
 use Rattle.trestlejay.proofs.records.tj_put_nothing as tj-put-nothing
 use Rattle.trestlejay.proofs.records.tj_put_type as tj-put-type
@@ -174,6 +176,9 @@ tj-min-i128-single κs a x y s t p q = (p .0 ∙ sym (q .0), (p .1 .0 ∙ sym (q
 
 pub tj-max-u128-single : SingleWithHalves tj-max-u128.Post
 tj-max-u128-single κs a x y s t p q = (p .0 ∙ sym (q .0), (p .1 .0 ∙ sym (q .1 .0), p .1 .1 ∙ sym (q .1 .1)))
+
+pub tj-read-sheet-single : Single 1 of-sheet.ps of-sheet.r tj-read-sheet.Post
+tj-read-sheet-single κs a x y s t p q = p ∙ sym q
 
 pub tj-fix-type-for-flags-single : (κs : Lfts 2) (a : Dens κs with-buffer.ps) (x y : resT with-buffer.r κs .Denot) (s t : AtExit (endedOf 2 with-buffer.ps with-buffer.r) κs) →
     tj-fix-type-for-flags.Post κs a x s → tj-fix-type-for-flags.Post κs a y t → (x ≡ y) × (now (s .1 .1 .1 .0) ≡ now (t .1 .1 .1 .0))

@@ -5,6 +5,7 @@ mod pairs;
 mod plans;
 mod properties;
 mod records;
+mod sheet;
 mod starts;
 mod uses;
 
@@ -42,6 +43,7 @@ pub use records::tj_put_nothing;
 pub use records::tj_put_poison;
 pub use records::tj_put_type;
 pub use records::tj_update_symbol;
+pub use sheet::tj_read_sheet;
 pub use starts::tj_fully_dereferenced;
 pub use starts::tj_get_element_type;
 pub use starts::tj_get_pointee_type;

@@ -7,9 +7,8 @@ use Prim.Native.Nat.{ℕ, _+_, _-_, _≤_, _<_}
 use native.Mathlib.Omega.{arith}
 use lib.Dec.{eqb, ltb}
 use borrow.Author.Tests.{eq-eqb, ne-eqb, le-leb, lt-leb}
-use Rattle.kinds.specs.Kind as kind
 use Rattle.layers.specs.Layers.{Layer, layers, outer, innerWords, isReference}
-use Rattle.layers.specs.Answer.{Answer, given, refused}
+use Rattle.layers.specs.Answer.{given}
 use Rattle.layers.proofs.Words.{inner-layers}
 use Rattle.layers.proofs.Decide.{yes, no}
 use Rattle.sizes.specs.Depth.{pointerDepth}
@@ -17,7 +16,7 @@ use Rattle.relations.specs.Relations.{identical}
 use Rattle.coercions.specs.Coercions.{coerces, addressCoerces}
 use Rattle.steps.specs.StepKind as of-step
 use Rattle.steps.specs.Steps.{step}
-use Rattle.turns.specs.Settling.{Settled, settled, byAddress, dereferenced, settleOtherwise, settle, ofSettling, Otherwise}
+use Rattle.turns.specs.Settling.{settled, byAddress, settleOtherwise, settle, ofSettling, Otherwise}
 use Rattle.turns.specs.Turns.{auto, onReference, onElement, onMember, turn}
 use Rattle.turns.specs.declared.turn.Turn.{Turn}
 use Rattle.turns.specs.declared.turn.Turn.the-variants.{Stuck, Auto}

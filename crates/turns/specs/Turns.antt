@@ -1,5 +1,5 @@
 -- One round of the walk, by the kinds of the current type's outer two layers and the asked step.
-use mathlib.Core.Bool.{Bool, cond, _&&_, _||_}
+use mathlib.Core.Bool.{cond, _&&_, _||_}
 use Prim.Native.Nat.{ℕ}
 use lib.Dec.{eqb}
 use Rattle.kinds.specs.Kind as kind

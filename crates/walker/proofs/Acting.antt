@@ -2,7 +2,7 @@
 -- Assumes nothing.
 use mathlib.Core.Path.{_≡_, refl, sym, ap, _∙_}
 use mathlib.Core.Bool.{Bool, true, false, cond, _&&_, _||_, and-true, and-false, false≢true}
-use mathlib.Core.List.{List, [], _∷_}
+use mathlib.Core.List.{List, _∷_}
 use Prim.Native.Nat.{ℕ, _≤_, _<_}
 use native.Mathlib.Omega.{arith}
 use lib.Dec.{eqb, leb}
@@ -14,7 +14,7 @@ use Rattle.layers.proofs.Words.{inner-layers, none, more}
 use Rattle.layers.proofs.Decide.{yes, no}
 use Rattle.steps.specs.StepKind as of-step
 use Rattle.steps.specs.Steps.{Step}
-use Rattle.walker.specs.Walker.{Where, at, stuck, Stored, toStored, element, member, autodeslice, autoderef, autoview, act}
+use Rattle.walker.specs.Walker.{Where, at, stuck, Stored, toStored, element, member, act}
 use Rattle.walker.specs.Members.{memberIn, askedIn, ofLayers}
 use Rattle.walker.specs.Moves.{onElement, onMember, onAutodeslice, takesOff, moveOf, seen, onward, desliced, sticks, moved, Whole, Current}
 use Rattle.walker.specs.declared.moves.Move.{Move}

@@ -5,13 +5,12 @@ use mathlib.Core.Bool.{Bool, true, false, cond}
 use mathlib.Core.List.{List, [], _∷_, _++_}
 use Prim.Native.Nat.{ℕ, suc, _+_, _*_, _-_, _%_, _≤_, _<_}
 use native.Mathlib.Omega.{arith}
-use lib.Dec.{ltb}
-use lib.ListN.{length, take, drop, set, length-drop, length-append}
+use lib.ListN.{length, take, drop, set, length-drop}
 use lib.Seq.{sets-eq, drop-append-le}
 use borrow.Author.Tests.{lt-ltb, le-ltb}
-use Rattle.layers.specs.Layers.{Layer, layer, layers, inside, spelled}
+use Rattle.layers.specs.Layers.{Layer, layer, spelled}
 use Rattle.layers.specs.Answer as paper
-use Rattle.layers.specs.Answer.{given, refused}
+use Rattle.layers.specs.Answer.{given}
 use Rattle.layers.proofs.Words.{inner-layers}
 use Rattle.layers.proofs.Spelling.{spelled-length, spelled-layers}
 use Rattle.buffers.specs.Written.{written}

@@ -1,4 +1,4 @@
--- The public contract allows one outcome: any two that it allows of the same arguments coincide, in the answer and in the
+-- Each public contract allows one outcome: any two that it allows of the same arguments coincide, in the answer and in the
 -- words that were lent for it.
 -- Assumes nothing.
 use mathlib.Core.Path.{_≡_, refl, sym, _∙_}
@@ -11,9 +11,17 @@ use ghost.Atoms.{Atoms}
 use contract.Lifetimes.{Lfts}
 use contract.Monad.{Fun}
 use denote.Ref.{now}
+use denote.Triple.Clauses.{AtExit}
 use denote.Triple.Entry.{Args}
+use borrow.Fn.Kinds.{Dens, resT, endedOf}
 use Rattle.columns.proofs.Single.{Walked}
+use Rattle.walks.proofs.taking.walk_among.Kinds.{ps, r}
+use Rattle.walks.proofs.taking.walk_among.Reads.{Post}
 use Rattle.walks.proofs.entry.walk as walk
+
+pub walk-among-single : (κs : Lfts 3) (a : Dens κs ps) (x y : resT r κs .Denot) (s t : AtExit (endedOf 3 ps r) κs) → Post κs a x s → Post κs a y t →
+    (x ≡ y) × (now (s .1 .1 .1 .1 .1 .1 .0) ≡ now (t .1 .1 .1 .1 .1 .1 .0))
+walk-among-single κs a x y s t p q = (p .0 ∙ sym (q .0), p .1 ∙ sym (q .1))
 
 module _ {M : Type 1} (𝓤 : URA M) (H : Heap 𝓤) (A : Atoms 𝓤) (mem : Memory → SProp 𝓤) (run : Routine → Fun 𝓤) where
   pub walk-single : (κs : Lfts 4) (a : Args walk.signature κs) →

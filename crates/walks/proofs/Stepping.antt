@@ -2,7 +2,7 @@
 -- Assumes nothing.
 use mathlib.Core.Path.{_≡_, refl, sym, ap, _∙_}
 use mathlib.Core.Bool.{Bool, true, false, cond, false≢true}
-use mathlib.Core.List.{List, [], _∷_}
+use mathlib.Core.List.{List, []}
 use Prim.Native.Nat.{ℕ, _+_, _/_, _%_, _≤_, _<_}
 use native.Mathlib.Omega.{arith}
 use lib.Dec.{eqb, leb}
@@ -10,7 +10,7 @@ use lib.ListN.{length, drop, getD, drop-of-length-le}
 use borrow.Author.Tests.{eq-eqb}
 use Rattle.layers.specs.Layers.{Layer, layers, outer}
 use Rattle.layers.specs.Answer as paper
-use Rattle.layers.specs.Answer.{given, refused, ofChecked, next}
+use Rattle.layers.specs.Answer.{refused, ofChecked, next}
 use Rattle.layers.specs.Check.{checkOf}
 use Rattle.layers.specs.declared.answers.Checked.{Checked}
 use Rattle.layers.specs.declared.answers.Checked.the-variants.{Good, Refused}
@@ -26,8 +26,8 @@ use Rattle.answers.specs.declared.flat.Answer.{Answer}
 use Rattle.steps.specs.Steps.{steps, stepsAnswer}
 use Rattle.steps.proofs.Words.{steps-none}
 use Rattle.steps.proofs.Passing.{here, at-word, steps-whole}
-use Rattle.walker.specs.Walker.{Where, at, stuck, Stored}
-use Rattle.walker.specs.Members.{memberWords, memberIn, askedIn, ofLayers, members}
+use Rattle.walker.specs.Walker.{at, Stored}
+use Rattle.walker.specs.Members.{memberIn, askedIn, ofLayers, members}
 use Rattle.walker.specs.Moves.{moveOf, seen, onward, desliced, sticks, moved, Whole, Current}
 use Rattle.walker.specs.declared.moves.Move.{Move}
 use Rattle.walker.proofs.Storing.{at-most, good-whole, member-whole}

@@ -4,3 +4,4 @@ mod entry;
 mod taking;
 
 pub use entry::walk;
+pub use taking::walk_among;

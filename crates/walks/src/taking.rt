@@ -80,7 +80,7 @@ fn walk_ordered<'a>(
 }
 
 // The walk with a table in columns.
-pub(crate) fn walk_among<'a>(
+pub fn walk_among<'a>(
     columns: [u64; 768],
     n: usize,
     known: &'a [u64],

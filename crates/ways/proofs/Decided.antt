@@ -20,7 +20,6 @@ use Rattle.orders.specs.Order.{inOrder}
 use Rattle.orders.proofs.Ordered.{Ordered, ordered, slot-there, free-there}
 use Rattle.ways.specs.Ways.{offersType, putsNothing, offeredCheck, placeOf, unless, wayOf}
 use Rattle.ways.specs.declared.operations.Operation.{Operation}
-use Rattle.ways.specs.declared.operations.Operation.the-variants as operation
 use Rattle.ways.specs.declared.slot.Way.{Way}
 use Rattle.ways.specs.declared.slot.Way.the-variants as way
 

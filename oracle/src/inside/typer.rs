@@ -31,7 +31,7 @@ fn mark(poison: &Poison) -> u64 {
     }
 }
 
-fn symbol(record: &Record) -> Symbol {
+pub(super) fn symbol(record: &Record) -> Symbol {
     Symbol {
         identifier: Identifier::new(record.id, record.authority, record.place),
         value_type: record.stored.clone().map_err(poison),
@@ -71,7 +71,7 @@ pub fn update(old: &Record, name: &Identifier, offered: &ValueType) -> Result<Re
 
 /// A typer of which only the symbol table is used.
 #[derive(Default)]
-pub struct Table(Typer);
+pub struct Table(pub(super) Typer);
 
 impl Table {
     pub fn new(records: &[Record]) -> Self {
@@ -171,7 +171,7 @@ pub struct Plan {
 }
 
 /// A good asked step, from its words.
-fn step(words: &Step) -> ReferenceStep {
+pub(super) fn step(words: &Step) -> ReferenceStep {
     match words[0] {
         0 => ReferenceStep::Element {
             argument: Box::new(Expression::Argument {

@@ -1,4 +1,3 @@
-use borrow.Author.Needs.{needs}
 use Rattle.planner.proofs.ending.pointers.Statement.{statement}
 use Rattle.planner.proofs.ending.pointers.Tie as tie
 use Rattle.layers.specs.Layers.{spelled}

@@ -1,7 +1,7 @@
 use borrow.Author.Needs.{needs}
 use Rattle.planner.proofs.finish.finish.Statement.{statement}
 use Rattle.planner.proofs.finish.finish.Tie as tie
-use Prim.Native.Nat.{_+_, _*_}
+use Prim.Native.Nat.{_*_}
 use native.Mathlib.Omega.{arith}
 use lib.ListN.{length, take, length-replicate}
 use Rattle.steps.specs.Steps.{step}

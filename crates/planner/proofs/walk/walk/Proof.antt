@@ -1,5 +1,5 @@
 use Prim.Native.Nat.{ℕ, _+_, _*_, _-_, _≤_, _<_}
-use mathlib.Core.Path.{_≡_, refl, sym, ap, _∙_}
+use mathlib.Core.Path.{_≡_, refl, ap, _∙_}
 use mathlib.Core.Logic.{⊎-elim, inl, inr}
 use native.Mathlib.Omega.{arith}
 use lib.ListN.{length}
@@ -13,7 +13,6 @@ use Rattle.layers.proofs.Accepted.{Whole}
 use Rattle.steps.proofs.Words.{stepAt}
 use Rattle.walker.specs.Members.{memberIn}
 use Rattle.planner.proofs.Reading.{onto-whole}
-use Rattle.planner.proofs.Delivering.{refuses}
 use Rattle.planner.proofs.Turning.{So, start, ends, stops, turns, steps-few, took-few}
 use Rattle.planner.proofs.Outcomes.{walk-refused, walk-ended}
 use Rattle.planner.proofs.walk.walk.Statement.{statement}

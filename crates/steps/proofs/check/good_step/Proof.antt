@@ -1,5 +1,4 @@
 use Rattle.steps.proofs.Passing.{of-element, of-member, of-autodeslice, of-auto}
-use borrow.Author.Needs.{needs}
 use Rattle.steps.proofs.check.good_step.Statement.{statement}
 use Rattle.steps.proofs.check.good_step.Tie as tie
 

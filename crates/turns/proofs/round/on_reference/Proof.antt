@@ -1,6 +1,5 @@
 use Rattle.layers.proofs.Decide.{yes, no}
 use Rattle.turns.proofs.Decided.{auto-pointer, auto-view}
-use borrow.Author.Needs.{needs}
 use Rattle.turns.proofs.round.on_reference.Statement.{statement}
 use Rattle.turns.proofs.round.on_reference.Tie as tie
 

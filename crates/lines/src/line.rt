@@ -1,0 +1,52 @@
+use crate::put::put;
+use crate::put::put_number;
+use coercions::can_autoderef_into;
+use coercions::can_coerce_address_into;
+use coercions::can_coerce_into;
+use relations::can_be_concretization_of;
+use relations::can_be_declared_as;
+use relations::equals;
+ghost use mathlib.Core.Path.{_≡_};
+ghost use Prim.Native.Nat.{_+_, _≤_, _<_};
+ghost use lib.ListN.{length};
+ghost use Rattle.lines.specs.Put.{putAt};
+ghost use Rattle.lines.specs.Text as text;
+
+fn digit(yes: bool) -> u8
+    ensures { λ r. ⌜ r ≡ text.digit yes ⌝ }
+{
+    if yes { 49 } else { 48 }
+}
+
+// The six relations of two types, each behind a space, and the end of the line.
+fn answers(a: &[u64], b: &[u64]) -> [u8; 13]
+    ensures { λ r. ⌜ r ≡ text.answers (now (a .entry)) (now (b .entry)) ⌝ }
+{
+    [
+        32,
+        digit(equals(a, b)),
+        32,
+        digit(can_be_declared_as(a, b)),
+        32,
+        digit(can_be_concretization_of(a, b)),
+        32,
+        digit(can_coerce_into(a, b)),
+        32,
+        digit(can_coerce_address_into(a, b)),
+        32,
+        digit(can_autoderef_into(a, b)),
+        10,
+    ]
+}
+
+// Puts the line of two types and their positions; and the place behind it.
+pub(crate) fn put_line(out: &mut [u8], at: usize, i: usize, j: usize, a: &[u64], b: &[u64]) -> usize
+    requires { ⌜ (at + 18 ≤ length (now out)) × (i < 100) × (j < 100) ⌝ }
+    ensures next { λ r. ⌜ r ≡ at + length (text.line i j (now (a .entry)) (now (b .entry))) ⌝ }
+    ensures text { λ _. ⌜ now (out .exit) ≡ putAt at (text.line i j (now (a .entry)) (now (b .entry))) (now (out .entry)) ⌝ }
+{
+    let first = put_number(out, at, i);
+    let second = put(out, first, b" ");
+    let third = put_number(out, second, j);
+    put(out, third, &answers(a, b))
+}

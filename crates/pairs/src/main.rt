@@ -1,0 +1,20 @@
+// Reads a sheet from standard input and prints how each ordered pair of its types stands to one another. All that it prints is
+// made by `lines::pairs_text`; here bytes are only moved.
+use lines::pairs_text;
+ghost use mathlib.Core.Path.{_≡_};
+ghost use lib.ListN.{length};
+
+// Room for one byte more than the longest sheet has: longer input is then refused.
+fn buffer() -> [u8; 12553]
+    ensures { λ r. ⌜ 12553 ≡ length r ⌝ }
+{
+    [0; 12553]
+}
+
+fn main() {
+    let mut sheet = buffer();
+    let n = io::read_full(0, &mut sheet);
+    let mut text = [0; 18494];
+    let size = pairs_text(&sheet[..n], &mut text);
+    io::write_all(1, &text[..size]);
+}

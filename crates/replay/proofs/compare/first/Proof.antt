@@ -1,9 +1,0 @@
-use native.Mathlib.Omega.{arith}
-use lib.ListN.{length-take}
-use borrow.Author.Needs.{needs}
-use Rattle.replay.proofs.compare.first.Statement.{statement}
-use Rattle.replay.proofs.compare.first.Tie as tie
-
-pub first-spec : {M : Type 1} → statement M
-first-spec =
-    tie.close (tie.spec (λ c. simp length-take (omega arith)) (λ c. search needs) (λ c. search needs))

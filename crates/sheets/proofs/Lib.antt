@@ -1,0 +1,8 @@
+-- What follows from the definition of a sheet.
+pub mod Decoding
+pub mod Counts
+pub mod Shape
+pub mod Places
+pub mod Checking
+pub mod Read
+pub mod Single

@@ -1,0 +1,80 @@
+-- "Sheets (added)": how the bytes of a sheet are read.
+use mathlib.Core.Bool.{Bool, true, cond, _&&_}
+use mathlib.Core.List.{List, [], _∷_}
+use Prim.Native.Nat.{ℕ, zero, suc, _+_, _*_, _/_, _%_}
+use lib.Dec.{eqb, leb}
+use lib.ListN.{length, take, drop, getD}
+use Rattle.layers.specs.Answer.{Answer, given, refused, next}
+use Rattle.layers.specs.Check.{checkOf}
+
+-- "Little-endian": the lowest byte first.
+unfoldable pub little : List ℕ → ℕ
+little [] = 0
+little (b ∷ bs) = b + 256 * little bs
+
+-- "u64 words": so many words, of eight bytes each.
+unfoldable pub wordsOf : ℕ → List ℕ → List ℕ
+wordsOf zero bs = []
+wordsOf (suc n) bs = little (take 8 bs) ∷ wordsOf n (drop 8 bs)
+
+abbrev pub wholeWords : List ℕ → List ℕ
+wholeWords bs = wordsOf (length bs / 8) bs
+
+-- From 1 to a limit.
+abbrev pub upTo : ℕ → ℕ → Bool
+upTo most n = leb 1 n && leb n most
+
+-- "a count 1 to 32,": the first word.
+abbrev pub count : List ℕ → ℕ
+count ws = getD ws 0 0
+
+-- "then each type's layer count 1 to 16,"
+abbrev pub layerCounts : List ℕ → List ℕ
+layerCounts ws = take (count ws) (drop 1 ws)
+
+unfoldable pub goodCounts : List ℕ → Bool
+goodCounts [] = true
+goodCounts (c ∷ cs) = upTo 16 c && goodCounts cs
+
+unfoldable pub total : List ℕ → ℕ
+total [] = 0
+total (c ∷ cs) = c + total cs
+
+-- "then the bodies. Any other length or count: 16."
+unfoldable pub isSheet : List ℕ → Bool
+isSheet ws =
+    upTo 32 (count ws)
+    && goodCounts (layerCounts ws)
+    && eqb (length ws) (1 + count ws + 3 * total (layerCounts ws))
+
+-- How many types a sheet has; of other words 0.
+abbrev pub typesIn : List ℕ → ℕ
+typesIn ws = cond (isSheet ws) (count ws) 0
+
+-- The bodies: each type's words stand behind those of the type before it.
+unfoldable pub bodies : List ℕ → List ℕ → List (List ℕ)
+bodies [] ws = []
+bodies (c ∷ cs) ws = take (3 * c) ws ∷ bodies cs (drop (3 * c) ws)
+
+-- The types of a sheet; of other words none.
+unfoldable pub types : List ℕ → List (List ℕ)
+types ws = cond (isSheet ws) (bodies (layerCounts ws) (drop (1 + count ws) ws)) []
+
+-- The words of type k, from 0; past the last type no words.
+abbrev pub typeAt : ℕ → List ℕ → List ℕ
+typeAt k ws = getD (types ws) k []
+
+-- The first refusal of a type, in the sheet's order; else what follows.
+unfoldable pub checkAll : List (List ℕ) → Answer ℕ → Answer ℕ
+checkAll [] c = c
+checkAll (t ∷ ts) c = next (checkOf t) (checkAll ts c)
+
+abbrev pub badSheet : Answer ℕ
+badSheet = refused 16 0
+
+-- "A sheet's 16 comes before all of these." How many types a sheet has.
+unfoldable pub readWords : List ℕ → Answer ℕ
+readWords ws = cond (isSheet ws) (checkAll (types ws) (given (count ws))) badSheet
+
+unfoldable pub readSheet : List ℕ → Answer ℕ
+readSheet bs = cond (eqb (length bs % 8) 0) (readWords (wholeWords bs)) badSheet
