@@ -17,9 +17,9 @@ extern "C" {
         n: usize,
     ) -> Raw;
     pub fn tj_put_nothing(
-        table: *const Symbol,
+        table: *mut Symbol,
         nt: usize,
-        store: *const u64,
+        store: *mut u64,
         ns: usize,
         id: u32,
         authority: bool,

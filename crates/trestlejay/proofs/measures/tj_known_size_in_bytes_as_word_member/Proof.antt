@@ -1,4 +1,5 @@
 use borrow.Author.Needs.{needs}
+use Rattle.trestlejay.proofs.Told.{found-of, size-of}
 use Rattle.trestlejay.proofs.measures.tj_known_size_in_bytes_as_word_member.Statement.{statement}
 use Rattle.trestlejay.proofs.measures.tj_known_size_in_bytes_as_word_member.Tie as tie
 
@@ -8,4 +9,4 @@ tj-known-size-in-bytes-as-word-member-spec =
     (tie.spec
     (λ c κs. search needs)
     (λ c κs. search needs)
-    (λ c. ((cc), (cc))))
+    (λ c. (search found-of, search size-of)))

@@ -1,4 +1,5 @@
 use borrow.Author.Needs.{needs}
+use Rattle.trestlejay.proofs.Told.{halves-of, low-of, high-of}
 use Rattle.trestlejay.proofs.measures.tj_max_u128.Statement.{statement}
 use Rattle.trestlejay.proofs.measures.tj_max_u128.Tie as tie
 
@@ -8,4 +9,4 @@ tj-max-u128-spec =
     (tie.spec
     (λ c κs. search needs)
     (λ c κs. search needs)
-    (λ c. ((cc), ((cc), (cc)))))
+    (λ c. (search halves-of, (search low-of, search high-of))))

@@ -1,4 +1,5 @@
 use borrow.Author.Needs.{needs}
+use Rattle.trestlejay.proofs.Told.{halves-of, low-of, high-of}
 use Rattle.trestlejay.proofs.measures.tj_min_i128.Statement.{statement}
 use Rattle.trestlejay.proofs.measures.tj_min_i128.Tie as tie
 
@@ -8,4 +9,4 @@ tj-min-i128-spec =
     (tie.spec
     (λ c κs. search needs)
     (λ c κs. search needs)
-    (λ c. ((cc), ((cc), (cc)))))
+    (λ c. (search halves-of, (search low-of, search high-of))))

@@ -1,4 +1,5 @@
 use borrow.Author.Needs.{needs}
+use Rattle.trestlejay.proofs.Told.{flat-of}
 use Rattle.trestlejay.proofs.pairs.tj_can_be_concretization_of.Statement.{statement}
 use Rattle.trestlejay.proofs.pairs.tj_can_be_concretization_of.Tie as tie
 
@@ -8,4 +9,4 @@ tj-can-be-concretization-of-spec =
     (tie.spec
     (λ c κs. search needs)
     (λ c κs. search needs)
-    (λ c. cc))
+    (λ c. search flat-of))

@@ -1,4 +1,5 @@
 use borrow.Author.Needs.{needs}
+use Rattle.trestlejay.proofs.Told.{flat-of}
 use Rattle.trestlejay.proofs.pairs.tj_can_coerce_address_into.Statement.{statement}
 use Rattle.trestlejay.proofs.pairs.tj_can_coerce_address_into.Tie as tie
 
@@ -8,4 +9,4 @@ tj-can-coerce-address-into-spec =
     (tie.spec
     (λ c κs. search needs)
     (λ c κs. search needs)
-    (λ c. cc))
+    (λ c. search flat-of))

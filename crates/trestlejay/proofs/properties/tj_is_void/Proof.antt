@@ -1,4 +1,5 @@
 use borrow.Author.Needs.{needs}
+use Rattle.trestlejay.proofs.Told.{flat-of}
 use Rattle.trestlejay.proofs.properties.tj_is_void.Statement.{statement}
 use Rattle.trestlejay.proofs.properties.tj_is_void.Tie as tie
 
@@ -8,4 +9,4 @@ tj-is-void-spec =
     (tie.spec
     (λ c κs. search needs)
     (λ c κs. search needs)
-    (λ c. cc))
+    (λ c. search flat-of))

@@ -1,4 +1,5 @@
 use borrow.Author.Needs.{needs}
+use Rattle.trestlejay.proofs.Told.{flat-of}
 use Rattle.trestlejay.proofs.uses.tj_can_be_sized.Statement.{statement}
 use Rattle.trestlejay.proofs.uses.tj_can_be_sized.Tie as tie
 
@@ -8,4 +9,4 @@ tj-can-be-sized-spec =
     (tie.spec
     (λ c κs. search needs)
     (λ c κs. search needs)
-    (λ c. cc))
+    (λ c. search flat-of))
