@@ -6,7 +6,7 @@ use mathlib.Core.List.{List}
 use Prim.Native.Nat.{ℕ}
 use Rattle.layers.specs.Layers.{layers, outer, innerWords}
 use Rattle.layers.proofs.Words.{inner-layers}
-use Rattle.relations.specs.Relations.{identical, equals}
+use Rattle.equalities.specs.Equalities.{identical, equals}
 use Rattle.coercions.specs.Coercions.{intoSlice, intoEndlessArray, structIntoView, coerces, addressIntoSlicePointer, addressIntoEndlessArray, addressCoerces}
 
 -- k and l are the outer kinds of a and b, d and c are what they hold, m is the outer kind of c

@@ -10,7 +10,7 @@ use borrow.Author.Tests.{eq-eqb, ne-eqb}
 use Rattle.kinds.specs.Kind as kind
 use Rattle.layers.specs.Layers.{Layer, layers, outer, inside, innerWords, isReference}
 use Rattle.layers.proofs.Words.{rest, none, more, inner-layers}
-use Rattle.relations.specs.Relations.{equals}
+use Rattle.equalities.specs.Equalities.{equals}
 use Rattle.coercions.specs.Coercions.{coerces, addressCoerces, subautoderefs, isArrayOrStruct, viewAutoderefs, pointerAutoderefs, autoderefs}
 
 -- "or", where the code holds the first test's outcome

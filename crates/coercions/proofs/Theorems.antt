@@ -8,8 +8,8 @@ use lib.Dec.{eqb}
 use borrow.Author.Tests.{eqb-true}
 use Rattle.kinds.specs.Kind as kind
 use Rattle.layers.specs.Layers.{Layer, layer, outer, inside, isReference}
-use Rattle.relations.specs.Relations.{identical, equals}
-use Rattle.relations.proofs.Theorems.{identical-equals, equals-reflexive}
+use Rattle.equalities.specs.Equalities.{identical, equals}
+use Rattle.equalities.proofs.Theorems.{identical-equals, equals-reflexive}
 use Rattle.coercions.specs.Coercions.{hasLength, intoSlice, intoEndlessArray, structIntoView, coerces, addressCoerces, isArrayOrStruct, viewAutoderefs, pointerAutoderefs, autoderefs}
 
 -- the pairs of kinds of which a value may coerce

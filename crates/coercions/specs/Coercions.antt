@@ -6,7 +6,7 @@ use Prim.Native.Nat.{ℕ}
 use lib.Dec.{eqb}
 use Rattle.kinds.specs.Kind as kind
 use Rattle.layers.specs.Layers.{Layer, outer, inside, isReference}
-use Rattle.relations.specs.Relations.{identical, equals}
+use Rattle.equalities.specs.Equalities.{identical, equals}
 
 -- "kind 14 or 15"
 abbrev pub hasLength : ℕ → Bool

@@ -1,9 +1,9 @@
 use crate::coerce::can_coerce_address_into;
 use crate::coerce::can_coerce_into;
+use equalities::equals;
 use kinds::Kind;
-use parts::inner;
-use parts::outer;
-use relations::equals;
+use layers::inner;
+use layers::outer;
 ghost use mathlib.Core.Path.{_≡_};
 ghost use Rattle.layers.specs.Layers.{layers};
 ghost use Rattle.coercions.specs.Coercions as rules;

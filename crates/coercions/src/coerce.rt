@@ -1,8 +1,8 @@
+use equalities::equals;
+use equalities::identical;
 use kinds::Kind;
-use parts::inner;
-use parts::outer;
-use relations::equals;
-use relations::identical;
+use layers::inner;
+use layers::outer;
 ghost use mathlib.Core.Path.{_≡_};
 ghost use Rattle.layers.specs.Layers.{layers};
 ghost use Rattle.coercions.specs.Coercions as rules;

@@ -2,34 +2,16 @@ use kinds::Kind;
 use layers::Checked;
 use layers::Verdict;
 use layers::check_type;
+use layers::is_array;
+use layers::is_reference;
+use layers::is_slice;
 ghost use mathlib.Core.Path.{_≡_};
 ghost use mathlib.Core.Bool.{not, _||_};
 ghost use lib.Dec.{eqb};
 ghost use Rattle.kinds.specs.Kind as kind;
-ghost use Rattle.layers.specs.Layers.{layers, isArray, isSlice, isReference};
+ghost use Rattle.layers.specs.Layers.{layers};
 ghost use Rattle.layers.specs.Answer.{ofVerdict};
 ghost use Rattle.forms.specs.Formed as formed;
-
-fn is_array(k: u64) -> bool
-    ensures { λ r. ⌜ r ≡ isArray k ⌝ }
-{
-    (k == Kind::ARRAY)
-        | (k == Kind::ARRAY_WITH_NAMED_LENGTH)
-        | (k == Kind::ENDLESS_ARRAY)
-        | (k == Kind::ARRAYLIKE)
-}
-
-fn is_slice(k: u64) -> bool
-    ensures { λ r. ⌜ r ≡ isSlice k ⌝ }
-{
-    (k == Kind::SLICE) | (k == Kind::SLICE_POINTER)
-}
-
-fn is_reference(k: u64) -> bool
-    ensures { λ r. ⌜ r ≡ isReference k ⌝ }
-{
-    (k == Kind::POINTER) | (k == Kind::VIEW)
-}
 
 // Whether an array may hold a type with this outer kind.
 fn can_be_element(k: u64) -> bool

@@ -2,7 +2,7 @@ use kinds::Kind;
 use layers::Checked;
 use layers::Verdict;
 use layers::check_type;
-use parts::outer;
+use layers::outer;
 ghost use mathlib.Core.Path.{_≡_};
 ghost use lib.Dec.{eqb};
 ghost use Rattle.kinds.specs.Kind as kind;

@@ -1,7 +1,7 @@
 -- A decision, by its test.
 -- Assumes nothing.
 use mathlib.Core.Path.{_≡_, refl, sym, _∙_}
-use mathlib.Core.Bool.{Bool, true, false, cond, _&&_, true≢false, false≢true}
+use mathlib.Core.Bool.{Bool, true, false, cond, _&&_, _||_, true≢false, false≢true}
 
 pub yes : {A : Type 0} (f : Bool) (r x y : A) → f ≡ true → r ≡ x → r ≡ cond f x y
 yes true r x y f e = e
@@ -22,3 +22,10 @@ no-by f g r x y p q e = no f r x y (sym p ∙ q) e
 pub both : (u v : Bool) → (u && v) ≡ true → (u ≡ true) × (v ≡ true)
 both true v e = (refl, e)
 both false v e = absurd (false≢true e)
+
+-- one of two or three tests, where the code holds the outcome of each
+pub either-of : (a b x y : Bool) → a ≡ x → b ≡ y → (a || b) ≡ (x || y)
+either-of a b x y p q = rw (p, q)
+
+pub one-of : (a b c x y z : Bool) → a ≡ x → b ≡ y → c ≡ z → (a || b || c) ≡ (x || y || z)
+one-of a b c x y z p q r = either-of (a || b) c (x || y) z (either-of a b x y p q) r

@@ -4,11 +4,26 @@ use mathlib.Core.Path.{_≡_, sym, _∙_}
 use mathlib.Core.List.{List}
 use Prim.Native.Nat.{ℕ}
 use contract.Lifetimes.{Lfts}
+use denote.Ref.{now}
 use denote.Triple.Clauses.{AtExit}
 use borrow.Fn.Kinds.{PK, RK, Out, Dens, resT, endedOf}
 use Rattle.layers.proofs.Apart.{checked-apart, verdict-apart}
 use Rattle.layers.proofs.check.check_type.Kinds as check-type-kinds
 use Rattle.layers.proofs.check.check_type.Reads as check-type
+use Rattle.layers.proofs.check.is_type.Kinds as is-type-kinds
+use Rattle.layers.proofs.check.is_type.Reads as is-type
+use Rattle.layers.proofs.layer.is_array.Kinds as is-array-kinds
+use Rattle.layers.proofs.layer.is_array.Reads as is-array
+use Rattle.layers.proofs.layer.is_slice.Kinds as is-slice-kinds
+use Rattle.layers.proofs.layer.is_slice.Reads as is-slice
+use Rattle.layers.proofs.layer.is_reference.Kinds as is-reference-kinds
+use Rattle.layers.proofs.layer.is_reference.Reads as is-reference
+use Rattle.layers.proofs.layer.holds_inner.Kinds as holds-inner-kinds
+use Rattle.layers.proofs.layer.holds_inner.Reads as holds-inner
+use Rattle.layers.proofs.outside.outer.Kinds as outer-kinds
+use Rattle.layers.proofs.outside.outer.Reads as outer
+use Rattle.layers.proofs.outside.inner.Kinds as part-kinds
+use Rattle.layers.proofs.outside.inner.Reads as inner
 use Rattle.layers.proofs.answers.Verdict.of.Kinds as of-kinds
 use Rattle.layers.proofs.answers.Verdict.of.Reads as of
 
@@ -21,3 +36,30 @@ check-type-single κs a x y s t p q = checked-apart x y (p ∙ sym q)
 
 pub of-single : Single 0 of-kinds.ps of-kinds.r of.Post
 of-single κs a x y s t p q = verdict-apart x y (p ∙ sym q)
+
+pub is-type-single : Single 1 is-type-kinds.ps is-type-kinds.r is-type.Post
+is-type-single κs a x y s t p q = p ∙ sym q
+
+pub is-array-single : Single 0 is-array-kinds.ps is-array-kinds.r is-array.Post
+is-array-single κs a x y s t p q = p ∙ sym q
+
+pub is-slice-single : Single 0 is-slice-kinds.ps is-slice-kinds.r is-slice.Post
+is-slice-single κs a x y s t p q = p ∙ sym q
+
+pub is-reference-single : Single 0 is-reference-kinds.ps is-reference-kinds.r is-reference.Post
+is-reference-single κs a x y s t p q = p ∙ sym q
+
+pub holds-inner-single : Single 0 holds-inner-kinds.ps holds-inner-kinds.r holds-inner.Post
+holds-inner-single κs a x y s t p q = p ∙ sym q
+
+pub outer-single : Single 1 outer-kinds.ps outer-kinds.r outer.Post
+outer-single κs a x y s t p q = p ∙ sym q
+
+-- of a part that is handed back, the words coincide
+abbrev pub SinglePart : Out 1 part-kinds.ps part-kinds.r → Type 0
+SinglePart Q =
+    (κs : Lfts 1) (a : Dens κs part-kinds.ps) (x y : resT part-kinds.r κs .Denot) (s t : AtExit (endedOf 1 part-kinds.ps part-kinds.r) κs) →
+    Q κs a x s → Q κs a y t → now x ≡ now y
+
+pub inner-single : SinglePart inner.Post
+inner-single κs a x y s t p q = p ∙ sym q

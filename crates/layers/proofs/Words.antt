@@ -7,11 +7,7 @@ use native.Mathlib.Omega.{arith}
 use lib.ListN.{length, take, drop, getD, length-drop, length-take, drop-of-length-le}
 use lib.Seq.{take-all}
 use lib.Dec.{T, leb, leb→le}
-use Rattle.layers.specs.Layers.{Layer, layer, layers, outer, inside}
-
--- the outer layer of a run of words
-abbrev pub head : List ℕ → Layer
-head a = layer (getD a 0 0) (getD a 1 0) (getD a 2 0)
+use Rattle.layers.specs.Layers.{layers, outer, inside, head}
 
 -- the words from the fourth on, as the code takes them
 abbrev pub rest : List ℕ → List ℕ

@@ -3,7 +3,7 @@ use mathlib.Core.Bool.{Bool, _||_}
 use mathlib.Core.List.{List, [], _∷_}
 use Prim.Native.Nat.{ℕ}
 use lib.Dec.{eqb}
-use lib.ListN.{drop}
+use lib.ListN.{drop, getD}
 use Rattle.kinds.specs.Kind as kind
 
 -- "A layer is three u64 words: kind, name, number."
@@ -54,3 +54,7 @@ inside (x ∷ a) = a
 -- "The inner type is the caller's own words from the next layer on."
 abbrev pub innerWords : List ℕ → List ℕ
 innerWords ws = drop 3 ws
+
+-- The outer layer of a type's words, as the code reads it.
+abbrev pub head : List ℕ → Layer
+head ws = layer (getD ws 0 0) (getD ws 1 0) (getD ws 2 0)

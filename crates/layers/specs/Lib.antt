@@ -1,4 +1,3 @@
 pub mod Layers
 pub mod Answer
 pub mod Check
-pub mod Allows

@@ -1,36 +1,49 @@
-use crate::allows::allowed_of;
 use crate::answers::Checked;
-use kinds::Kind;
+use crate::layer::good_layer;
+use crate::layer::holds_inner;
 ghost use mathlib.Core.Path.{_≡_};
 ghost use mathlib.Core.Bool.{cond, not, _&&_};
-ghost use Prim.Native.Nat.{_<_};
 ghost use lib.Dec.{eqb};
-ghost use Rattle.layers.specs.Layers.{layer, holdsInner};
+ghost use Rattle.layers.specs.Layers.{holdsInner};
 ghost use Rattle.layers.specs.Answer.{ofChecked};
-ghost use Rattle.layers.specs.Check.{checkOf, goodLayer};
+ghost use Rattle.layers.specs.Check.{badCount, checkOf, isGood};
 
 // The place of no layer: a type has at most 16, from 0.
 const NOWHERE: u64 = 16;
 
-fn good_layer(k: u64, n: u64, m: u64) -> bool
-    ensures { λ r. ⌜ r ≡ goodLayer (layer k n m) ⌝ }
+fn is_bad_count(n: usize) -> bool
+    ensures { λ r. ⌜ r ≡ badCount n ⌝ }
 {
-    if k > 24 {
-        return false;
-    }
-    let allowed = allowed_of(k);
-    let unresolved = k == Kind::UNRESOLVED_STRUCT_OR_WORD;
-    let named = allowed.name & (!unresolved | (m != 0));
-    ((named & (n <= 4294967295)) | (n == 0)) & (allowed.number | (unresolved & (m == 1)) | (m == 0))
+    (n == 0) | (n > 48) | (n % 3 != 0)
 }
 
 // Whether a layer of this kind is a leaf early, or the last and no leaf.
 fn is_misplaced(k: u64, last: bool) -> bool
-    requires { ⌜ k < 25 ⌝ }
     ensures { λ r. ⌜ r ≡ cond (holdsInner k) last (not last) ⌝ }
 {
-    let allowed = allowed_of(k);
-    if allowed.holds { last } else { !last }
+    if holds_inner(k) { last } else { !last }
+}
+
+// Whether words pass the checks 1 to 3.
+pub fn is_type(ws: &[u64]) -> bool
+    ensures { λ r. ⌜ r ≡ isGood (checkOf (now (ws .entry))) ⌝ }
+{
+    let n = ws.len();
+    if is_bad_count(n) {
+        return false;
+    }
+    let mut at = 0;
+    while at < n {
+        let k = ws[at];
+        if !good_layer(k, ws[at + 1], ws[at + 2]) {
+            return false;
+        }
+        at += 3;
+        if is_misplaced(k, at == n) {
+            return false;
+        }
+    }
+    true
 }
 
 // The first misplaced layer: the one that was found before, or this one where it is misplaced.
@@ -44,12 +57,12 @@ fn earliest(found: u64, wrong: bool, place: u64) -> u64
     }
 }
 
-// The checks 1 to 3. One pass: a bad layer ends it at once, the first misplaced layer is remembered.
-pub fn check_type(ws: &[u64]) -> Checked
+// What the checks say first. One pass: a bad layer ends it at once, the first misplaced layer is remembered.
+fn first_refusal(ws: &[u64]) -> Checked
     ensures { λ r. ⌜ ofChecked r ≡ checkOf (now (ws .entry)) ⌝ }
 {
     let n = ws.len();
-    if (n == 0) | (n > 48) | (n % 3 != 0) {
+    if is_bad_count(n) {
         return Checked::Refused {
             number: 1,
             place: 0,
@@ -74,5 +87,16 @@ pub fn check_type(ws: &[u64]) -> Checked
             number: 3,
             place: misplaced,
         }
+    }
+}
+
+// The checks 1 to 3. Words that pass are told by a test that keeps no place; the others are looked at once more.
+pub fn check_type(ws: &[u64]) -> Checked
+    ensures { λ r. ⌜ ofChecked r ≡ checkOf (now (ws .entry)) ⌝ }
+{
+    if is_type(ws) {
+        Checked::Good((ws.len() / 3) as u64)
+    } else {
+        first_refusal(ws)
     }
 }

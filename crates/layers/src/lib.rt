@@ -1,8 +1,16 @@
 // What a type is: its words as layers, the checks of them, and the answers of every question.
-mod allows;
 mod answers;
 mod check;
+mod layer;
+mod outside;
 
 pub use answers::Checked;
 pub use answers::Verdict;
 pub use check::check_type;
+pub use check::is_type;
+pub use layer::holds_inner;
+pub use layer::is_array;
+pub use layer::is_reference;
+pub use layer::is_slice;
+pub use outside::inner;
+pub use outside::outer;

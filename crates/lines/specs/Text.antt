@@ -5,6 +5,7 @@ use Prim.Native.Nat.{ℕ, _+_, _/_, _%_}
 use lib.Dec.{ltb}
 use Rattle.layers.specs.Answer.{Answer, given, nothing, refused}
 use Rattle.layers.specs.Layers.{layers}
+use Rattle.equalities.specs.Equalities.{equals}
 use Rattle.relations.specs.Relations as relation
 use Rattle.coercions.specs.Coercions as coercion
 use Rattle.sheets.specs.Sheet.{types, wholeWords, readSheet}
@@ -66,7 +67,7 @@ digit b = cond b 49 48
 -- "the six relations, parted by single spaces"
 unfoldable pub answers : List ℕ → List ℕ → List ℕ
 answers a b =
-    space ∷ digit (relation.equals (layers a) (layers b))
+    space ∷ digit (equals (layers a) (layers b))
     ∷ space ∷ digit (relation.declared (layers a) (layers b))
     ∷ space ∷ digit (relation.concretization (layers a) (layers b))
     ∷ space ∷ digit (coercion.coerces (layers a) (layers b))

@@ -9,11 +9,25 @@ use lib.ListN.{length, drop, getD, length-drop}
 use lib.Seq.{drop-drop}
 use Rattle.layers.specs.Layers.{layers, outer, isReference}
 use Rattle.layers.specs.Answer.{Answer, given}
-use Rattle.parts.specs.Parts.{innerIf, references, fullyDereferenced, hasElement, hasPointee, hasViewee}
+use Rattle.parts.specs.Parts.{innerIf, elementOf, pointeeOf, vieweeOf, references, fullyDereferenced, hasElement, hasPointee, hasViewee}
 use Rattle.parts.specs.Starts.{innerStart, startIn}
 use Rattle.parts.specs.declared.starts.Part.{Part}
 use Rattle.parts.specs.declared.starts.Part.the-variants as part
 use Rattle.layers.proofs.Words.{rest, rest-is, none, more-drop}
+
+-- the inner type, by the outer kind
+module _ (ws l : List ℕ) (k : ℕ) (e : k ≡ outer (layers ws)) where
+  pub element-is : (b : Bool) → b ≡ hasElement k → l ≡ innerIf b ws → l ≡ elementOf ws
+  unfolding elementOf
+  element-is b f q = rw (← e, ← f) q
+
+  pub pointee-is : l ≡ innerIf (hasPointee k) ws → l ≡ pointeeOf ws
+  unfolding pointeeOf
+  pointee-is q = rw (← e) q
+
+  pub viewee-is : l ≡ innerIf (hasViewee k) ws → l ≡ vieweeOf ws
+  unfolding vieweeOf
+  viewee-is q = rw (← e) q
 
 module _ (b : Bool) (ws : List ℕ) where
   pub there : (l : List ℕ) → b ≡ true → l ≡ drop 3 ws → l ≡ innerIf b ws
@@ -28,15 +42,16 @@ module _ (ws : List ℕ) where
   unfolding fullyDereferenced references
   plain-none h = rw (none ws)
 
-  pub plain : 3 ≤ length ws → isReference (getD ws 0 0) ≡ false → ws ≡ fullyDereferenced ws
-  unfolding fullyDereferenced references
-  plain h e = rw (more-drop ws, e)
+  module _ (b : Bool) (h : 3 ≤ length ws) (f : b ≡ isReference (getD ws 0 0)) where
+    pub plain : b ≡ false → ws ≡ fullyDereferenced ws
+    unfolding fullyDereferenced references
+    plain e = rw (more-drop ws, ← f, e)
 
-  pub through : (l : List ℕ) → 3 ≤ length ws → isReference (getD ws 0 0) ≡ true → l ≡ fullyDereferenced (rest ws) → l ≡ fullyDereferenced ws
-  unfolding fullyDereferenced references
-  through l h e q =
-      let n : (references (layers (drop 3 ws)) + 1) * 3 ≡ 3 + references (layers (drop 3 ws)) * 3 = omega arith in
-      rw (more-drop ws, e, n, ← drop-drop) (rw rest-is at q)
+    pub through : (l : List ℕ) → b ≡ true → l ≡ fullyDereferenced (rest ws) → l ≡ fullyDereferenced ws
+    unfolding fullyDereferenced references
+    through l e q =
+        let n : (references (layers (drop 3 ws)) + 1) * 3 ≡ 3 + references (layers (drop 3 ws)) * 3 = omega arith in
+        rw (more-drop ws, ← f, e, n, ← drop-drop) (rw rest-is at q)
 
 -- the Pointers and Views are layers of the words
 within : (ws : List ℕ) → references (layers ws) * 3 ≤ length ws

@@ -1,16 +1,8 @@
 -- Each public contract allows one result: any two that it allows of the same arguments coincide.
 -- Assumes nothing.
 use mathlib.Core.Path.{_≡_, sym, _∙_}
-use contract.Lifetimes.{Lfts}
-use denote.Ref.{now}
-use denote.Triple.Clauses.{AtExit}
-use borrow.Fn.Kinds.{Out, Dens, resT, endedOf}
-use Rattle.layers.proofs.Single.{Single}
+use Rattle.layers.proofs.Single.{Single, SinglePart}
 use Rattle.parts.proofs.Apart.{start-apart}
-use Rattle.parts.proofs.layer.outer.Kinds as outer-kinds
-use Rattle.parts.proofs.layer.outer.Reads as outer
-use Rattle.parts.proofs.layer.inner.Kinds as part-kinds
-use Rattle.parts.proofs.layer.inner.Reads as inner
 use Rattle.parts.proofs.inside.get_element_type.Reads as element
 use Rattle.parts.proofs.inside.get_pointee_type.Reads as pointee
 use Rattle.parts.proofs.inside.get_viewee_type.Reads as viewee
@@ -18,21 +10,10 @@ use Rattle.parts.proofs.inside.fully_dereferenced.Reads as dereferenced
 use Rattle.parts.proofs.starts.start_of.Kinds as start-of-kinds
 use Rattle.parts.proofs.starts.start_of.Reads as start-of
 
-pub outer-single : Single 1 outer-kinds.ps outer-kinds.r outer.Post
-outer-single κs a x y s t p q = p ∙ sym q
-
 pub start-of-single : Single 1 start-of-kinds.ps start-of-kinds.r start-of.Post
 start-of-single κs a x y s t p q = start-apart x y (p ∙ sym q)
 
 -- of a part that is handed back, the words coincide
-abbrev SinglePart : Out 1 part-kinds.ps part-kinds.r → Type 0
-SinglePart Q =
-    (κs : Lfts 1) (a : Dens κs part-kinds.ps) (x y : resT part-kinds.r κs .Denot) (s t : AtExit (endedOf 1 part-kinds.ps part-kinds.r) κs) →
-    Q κs a x s → Q κs a y t → now x ≡ now y
-
-pub inner-single : SinglePart inner.Post
-inner-single κs a x y s t p q = p ∙ sym q
-
 pub get-element-type-single : SinglePart element.Post
 get-element-type-single κs a x y s t p q = p ∙ sym q
 

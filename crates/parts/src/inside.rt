@@ -1,17 +1,16 @@
-use crate::layer::inner;
-use crate::layer::outer;
 use kinds::Kind;
+use layers::inner;
+use layers::is_array;
+use layers::is_reference;
+use layers::is_slice;
+use layers::outer;
 ghost use mathlib.Core.Path.{_≡_};
 ghost use Rattle.parts.specs.Parts.{elementOf, pointeeOf, vieweeOf, fullyDereferenced, hasElement, innerIf};
 
 pub(crate) fn has_element(k: u64) -> bool
     ensures { λ r. ⌜ r ≡ hasElement k ⌝ }
 {
-    (k == Kind::ARRAY)
-        | (k == Kind::ARRAY_WITH_NAMED_LENGTH)
-        | (k == Kind::ENDLESS_ARRAY)
-        | (k == Kind::ARRAYLIKE)
-        | ((k == Kind::SLICE) | (k == Kind::SLICE_POINTER))
+    is_array(k) | is_slice(k)
 }
 
 // The inner type where the type has it; else no words.
@@ -52,8 +51,7 @@ pub fn fully_dereferenced(a: &[u64]) -> &[u64]
     if a.len() < 3 {
         return a;
     }
-    let k = a[0];
-    if (k == Kind::POINTER) | (k == Kind::VIEW) {
+    if is_reference(a[0]) {
         fully_dereferenced(&a[3..])
     } else {
         a

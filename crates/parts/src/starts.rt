@@ -1,9 +1,9 @@
 use crate::inside::fully_dereferenced;
 use crate::inside::has_element;
-use crate::layer::outer;
 use kinds::Kind;
 use layers::Checked;
 use layers::check_type;
+use layers::outer;
 ghost use mathlib.Core.Path.{_≡_};
 ghost use Rattle.layers.specs.Layers.{layers};
 ghost use Rattle.parts.specs.Starts.{ofStart, innerStart, startIn, startAnswer};

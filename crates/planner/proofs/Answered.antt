@@ -11,7 +11,7 @@ use Rattle.layers.specs.Layers.{Layer, layers, outer, inside}
 use Rattle.layers.specs.Answer.{Answer, given, nothing, refused, next}
 use Rattle.layers.specs.Check.{Place, at, nowhere, badCount, badLayer, misplaced, unless, checkOf}
 use Rattle.forms.specs.Formed.{wellFormed}
-use Rattle.relations.specs.Relations.{identical}
+use Rattle.equalities.specs.Equalities.{identical}
 use Rattle.coercions.specs.Coercions.{coerces, addressCoerces}
 use Rattle.sizes.specs.Depth.{pointerDepth}
 use Rattle.columns.specs.declared.symbol.Symbol.{Symbol}

@@ -18,7 +18,7 @@ use Rattle.layers.specs.Check.{goodLayer}
 use Rattle.parts.specs.Parts.{references}
 use Rattle.sizes.specs.Depth.{pointerDepth}
 use Rattle.forms.specs.Formed.{inner, wellFormed}
-use Rattle.relations.proofs.Theorems.{identical-equal}
+use Rattle.equalities.proofs.Theorems.{identical-equal}
 use Rattle.layers.proofs.Decide.{both}
 use Rattle.steps.specs.StepKind as of-step
 use Rattle.steps.specs.Steps.{Step, step}

@@ -9,7 +9,7 @@ use Rattle.layers.specs.Answer.{refused}
 use Rattle.parts.specs.Parts.{references}
 use Rattle.sizes.specs.Depth.{pointerDepth}
 use Rattle.forms.specs.Formed.{inner, element, wellFormed}
-use Rattle.relations.specs.Relations.{identical, plain, equals}
+use Rattle.equalities.specs.Equalities.{identical, plain, equals}
 use Rattle.coercions.specs.Coercions.{coerces, addressCoerces, viewAutoderefs, autoderefs}
 use Rattle.turns.specs.Turns.{turn}
 use Rattle.turns.specs.Settling.{settleOtherwise, settle}

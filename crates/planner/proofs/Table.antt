@@ -10,7 +10,8 @@ use Rattle.layers.specs.Answer.{Answer, given, refused}
 use Rattle.parts.specs.Parts.{references}
 use Rattle.sizes.specs.Depth.{pointerDepth}
 use Rattle.forms.specs.Formed.{inner, element, wellFormed}
-use Rattle.relations.specs.Relations.{identical, plain, equals, declared}
+use Rattle.equalities.specs.Equalities.{identical, plain, equals}
+use Rattle.relations.specs.Relations.{declared}
 use Rattle.coercions.specs.Coercions.{coerces, addressCoerces}
 use Rattle.steps.specs.StepKind as of-step
 use Rattle.steps.specs.Steps.{Step, step}

@@ -1,5 +1,5 @@
 use forms::is_wellformed;
-use parts::inner;
+use layers::inner;
 use steps::StepKind;
 use steps::four;
 use turns::Turn;

@@ -1,16 +1,43 @@
--- Declared as and concretization, by what the code tested.
+-- Like, declared as and concretization, by what the code tested.
 -- Assumes nothing.
 use mathlib.Core.Path.{_≡_}
-use mathlib.Core.Bool.{Bool, true, false}
+use mathlib.Core.Bool.{Bool, true, false, _&&_, _||_}
 use mathlib.Core.List.{List}
 use Prim.Native.Nat.{ℕ, _≤_, _<_}
-use lib.Dec.{ltb}
+use lib.Dec.{eqb, ltb}
 use lib.ListN.{length, getD}
-use Rattle.layers.specs.Layers.{layers, outer, innerWords}
+use Rattle.kinds.specs.Kind as kind
+use Rattle.layers.specs.Layers.{isSlice, layers, head, outer, innerWords}
 use Rattle.layers.proofs.Words.{rest, none, more, inner-layers}
-use Rattle.relations.specs.Heads.{head}
-use Rattle.relations.specs.Relations.{identical, like, declared, declaresArraylike, slicePointerMeetsPointer, concretization, sameHolder, arrayMeetsArraylike, sliceMeetsArraylike, resolves}
-use Rattle.relations.proofs.Steps.{no-layer}
+use Rattle.equalities.specs.Equalities.{identical}
+use Rattle.equalities.proofs.Steps.{no-layer}
+use Rattle.relations.specs.Relations.{like, declared, declaresArraylike, slicePointerMeetsPointer, concretization, sameHolder, arrayMeetsArraylike, meetsArraylike, resolves}
+
+-- where the code holds the outcome of a test
+pub meets-by : (k l : ℕ) (f g : Bool) → f ≡ arrayMeetsArraylike k l → g ≡ isSlice k → (f || g && eqb l kind.arraylike) ≡ meetsArraylike k l
+meets-by k l f g p q = rw (p, q)
+
+pub holder-by : (f g u v w : Bool) → f ≡ g → (f && u && v && w) ≡ (g && u && v && w)
+holder-by f g u v w p = rw p
+
+-- like
+module _ (a b : List ℕ) where
+  pub like-none : length a < 3 → ltb (length b) 3 ≡ like (layers a) (layers b)
+  unfolding like
+  like-none h = rw (none a) (no-layer b)
+
+  pub like-less : 3 ≤ length a → length b < 3 → false ≡ like (layers a) (layers b)
+  unfolding like identical
+  like-less h k = rw (more a, none b)
+
+  module _ (f r : Bool) (h : 3 ≤ length a) (k : 3 ≤ length b) (e : f ≡ arrayMeetsArraylike (getD a 0 0) (getD b 0 0)) where
+    pub like-in : f ≡ true → r ≡ like (layers (rest a)) (layers (rest b)) → r ≡ like (layers a) (layers b)
+    unfolding like
+    like-in g i = rw (more a, more b, ← e, g) i
+
+    pub like-out : f ≡ false → r ≡ identical (layers a) (layers b) → r ≡ like (layers a) (layers b)
+    unfolding like
+    like-out g i = rw (more a, more b, ← e, g) (rw (more a, more b) at i)
 
 -- declared as: k and l are the outer kinds of a and b, d and c are what they hold
 module _ (a b c d : List ℕ) (k l : ℕ) (f r : Bool) (p : k ≡ outer (layers a)) (q : l ≡ outer (layers b))
@@ -45,28 +72,23 @@ module _ (a b : List ℕ) where
     unfolding concretization
     concrete-in g i = rw (more a, more b, ← e, g) i
 
-    module _ (g : Bool) (n : f ≡ false) (p : g ≡ arrayMeetsArraylike (getD a 0 0) (getD b 0 0)) where
-      pub concrete-array : g ≡ true → r ≡ like (layers (rest a)) (layers (rest b)) → r ≡ concretization (layers a) (layers b)
+    module _ (g : Bool) (n : f ≡ false) (p : g ≡ meetsArraylike (getD a 0 0) (getD b 0 0)) where
+      pub concrete-like : g ≡ true → r ≡ like (layers (rest a)) (layers (rest b)) → r ≡ concretization (layers a) (layers b)
       unfolding concretization
-      concrete-array t i = rw (more a, more b, ← e, n, ← p, t) i
+      concrete-like t i = rw (more a, more b, ← e, n, ← p, t) i
 
-      module _ (s : g ≡ false) where
-        pub concrete-slice : sliceMeetsArraylike (getD a 0 0) (getD b 0 0) ≡ true → r ≡ like (layers (rest a)) (layers (rest b)) → r ≡ concretization (layers a) (layers b)
+      module _ (m : ℕ) (v : Bool) (s : g ≡ false) (w : m ≡ outer (layers (rest b)))
+          (j : v ≡ slicePointerMeetsPointer (getD a 0 0) (getD b 0 0) m) where
+        pub concrete-pointer : (d : List ℕ) → v ≡ true → d ≡ innerWords (rest b) → r ≡ like (layers (rest a)) (layers d) →
+            r ≡ concretization (layers a) (layers b)
         unfolding concretization
-        concrete-slice t i = rw (more a, more b, ← e, n, ← p, s, t) i
+        concrete-pointer d x y i = rw (more a, more b, ← e, n, ← p, s, ← w, ← j, x, ← inner-layers, ← y) i
 
-        module _ (m : ℕ) (v : Bool) (t : sliceMeetsArraylike (getD a 0 0) (getD b 0 0) ≡ false) (w : m ≡ outer (layers (rest b)))
-            (j : v ≡ slicePointerMeetsPointer (getD a 0 0) (getD b 0 0) m) where
-          pub concrete-pointer : (d : List ℕ) → v ≡ true → d ≡ innerWords (rest b) → r ≡ like (layers (rest a)) (layers d) →
-              r ≡ concretization (layers a) (layers b)
+        module _ (z : Bool) (x : v ≡ false) (y : z ≡ resolves (head a) (head b)) where
+          pub concrete-resolved : z ≡ true → true ≡ concretization (layers a) (layers b)
           unfolding concretization
-          concrete-pointer d x y i = rw (more a, more b, ← e, n, ← p, s, t, ← w, ← j, x, ← inner-layers, ← y) i
+          concrete-resolved i = rw (more a, more b, ← e, n, ← p, s, ← w, ← j, x, ← y, i)
 
-          module _ (z : Bool) (x : v ≡ false) (y : z ≡ resolves (head a) (head b)) where
-            pub concrete-resolved : z ≡ true → true ≡ concretization (layers a) (layers b)
-            unfolding concretization
-            concrete-resolved i = rw (more a, more b, ← e, n, ← p, s, t, ← w, ← j, x, ← y, i)
-
-            pub concrete-same : z ≡ false → r ≡ identical (layers a) (layers b) → r ≡ concretization (layers a) (layers b)
-            unfolding concretization
-            concrete-same i o = rw (more a, more b, ← e, n, ← p, s, t, ← w, ← j, x, ← y, i) (rw (more a, more b) at o)
+          pub concrete-same : z ≡ false → r ≡ identical (layers a) (layers b) → r ≡ concretization (layers a) (layers b)
+          unfolding concretization
+          concrete-same i o = rw (more a, more b, ← e, n, ← p, s, ← w, ← j, x, ← y, i) (rw (more a, more b) at o)

@@ -3,19 +3,11 @@
 use mathlib.Core.Path.{sym, _∙_}
 use Rattle.layers.proofs.Apart.{verdict-apart}
 use Rattle.layers.proofs.Single.{Single}
-use Rattle.relations.proofs.same.identical.Kinds.{ps, r}
-use Rattle.relations.proofs.same.identical.Reads as identical
-use Rattle.relations.proofs.same.equals.Reads as equals
+use Rattle.relations.proofs.general.can_be_declared_as.Kinds.{ps, r}
 use Rattle.relations.proofs.general.can_be_declared_as.Reads as can-be-declared-as
 use Rattle.relations.proofs.general.can_be_concretization_of.Reads as can-be-concretization-of
 use Rattle.relations.proofs.related.relates.Kinds as relates-kinds
 use Rattle.relations.proofs.related.relates.Reads as relates
-
-pub identical-single : Single 2 ps r identical.Post
-identical-single κs a x y s t p q = p ∙ sym q
-
-pub equals-single : Single 2 ps r equals.Post
-equals-single κs a x y s t p q = p ∙ sym q
 
 pub can-be-declared-as-single : Single 2 ps r can-be-declared-as.Post
 can-be-declared-as-single κs a x y s t p q = p ∙ sym q

@@ -5,55 +5,13 @@ use mathlib.Core.Bool.{Bool, true, false, cond, not, _&&_, _||_, and-false, fals
 use mathlib.Core.List.{List, [], _∷_}
 use Prim.Native.Nat.{ℕ}
 use lib.Dec.{eqb}
-use borrow.Author.Tests.{eq-eqb, eqb-true}
+use borrow.Author.Tests.{eqb-true}
 use Rattle.kinds.specs.Kind as kind
 use Rattle.layers.specs.Layers.{Layer, layer, outer, inside, isSlice, holdsInner}
-use Rattle.relations.specs.Relations.{sameLayer, identical, plain, equals, arrayMeetsArraylike, like, declaresArraylike, slicePointerMeetsPointer, declared, sameHolder, meetsArraylike, resolves, concretization}
-
-left : (u v : Bool) → (u && v) ≡ true → u ≡ true
-left true v e = refl
-left false v e = absurd (false≢true e)
-
-right : (u v : Bool) → (u && v) ≡ true → v ≡ true
-right true v e = e
-right false v e = absurd (false≢true e)
-
-same-layers : (x y : Layer) → sameLayer x y ≡ true → x ≡ y
-same-layers x y e =
-    let k = eqb-true (x .kind) (y .kind) (left _ (eqb (x .name) (y .name)) (left _ (eqb (x .number) (y .number)) e)) in
-    let n = eqb-true (x .name) (y .name) (right (eqb (x .kind) (y .kind)) _ (left _ (eqb (x .number) (y .number)) e)) in
-    let m = eqb-true (x .number) (y .number) (right (eqb (x .kind) (y .kind) && eqb (x .name) (y .name)) _ e) in
-    let whole : layer (x .kind) (x .name) (x .number) ≡ layer (y .kind) (y .name) (y .number) = rw (k, n, m) in
-    whole
-
--- Identical types are the same run of layers.
-pub identical-equal : (a b : List Layer) → identical a b ≡ true → a ≡ b
-unfolding identical
-identical-equal [] [] e = refl
-identical-equal [] (y ∷ b) e = absurd (false≢true e)
-identical-equal (x ∷ a) [] e = absurd (false≢true e)
-identical-equal (x ∷ a) (y ∷ b) e =
-    rw (same-layers x y (left (sameLayer x y) (identical a b) e), identical-equal a b (right (sameLayer x y) (identical a b) e))
-
--- Every type is identical to itself.
-pub identical-reflexive : (a : List Layer) → identical a a ≡ true
-unfolding identical
-identical-reflexive [] = refl
-identical-reflexive (x ∷ a) =
-    rw (eq-eqb (x .kind) (x .kind) refl, eq-eqb (x .name) (x .name) refl, eq-eqb (x .number) (x .number) refl) (identical-reflexive a)
-
--- Equals is an equivalence: reflexive, symmetric, transitive.
-pub equals-reflexive : (a : List Layer) → equals a a ≡ true
-unfolding equals
-equals-reflexive a = identical-reflexive (plain a)
-
-pub equals-symmetric : (a b : List Layer) → equals a b ≡ true → equals b a ≡ true
-unfolding equals
-equals-symmetric a b e = rw (identical-equal (plain a) (plain b) e) (identical-reflexive (plain b))
-
-pub equals-transitive : (a b c : List Layer) → equals a b ≡ true → equals b c ≡ true → equals a c ≡ true
-unfolding equals
-equals-transitive a b c e f = rw (identical-equal (plain a) (plain b) e) f
+use Rattle.layers.proofs.Decide.{both}
+use Rattle.equalities.specs.Equalities.{identical, plain, equals}
+use Rattle.equalities.proofs.Theorems.{identical-equal, identical-reflexive}
+use Rattle.relations.specs.Relations.{arrayMeetsArraylike, like, declaresArraylike, slicePointerMeetsPointer, declared, sameHolder, meetsArraylike, resolves, concretization}
 
 -- A kind isn't both one that a test holds of and another.
 other : (test : ℕ → Bool) (k l : ℕ) → test l ≡ false → (test k && eqb k l) ≡ false
@@ -117,11 +75,8 @@ concretization-reflexive (x ∷ a) = by-layer (sameHolder x x) (concretization-r
         concretization-otherwise x x a a e (meets-no-arraylike (x .kind)) (meets-no-pointer (x .kind) (outer a)) (resolves-not x)
         ∙ identical-reflexive (x ∷ a)
 
--- Identical types are equal, like each other, declared as each other, and concretizations of each other.
+-- Identical types are like each other, declared as each other, and concretizations of each other.
 module _ (a b : List Layer) (e : identical a b ≡ true) where
-  pub identical-equals : equals a b ≡ true
-  identical-equals = rw (identical-equal a b e) (equals-reflexive b)
-
   pub identical-like : like a b ≡ true
   identical-like = rw (identical-equal a b e) (like-reflexive b)
 
@@ -135,7 +90,8 @@ same-kind : (x y : Layer) → sameHolder x y ≡ true → x .kind ≡ y .kind
 same-kind x y e =
     let length = not (eqb (x .kind) kind.array) || eqb (x .number) (y .number) in
     let name = not (eqb (x .kind) kind.arrayWithNamedLength) || eqb (x .name) (y .name) in
-    eqb-true (x .kind) (y .kind) (right (holdsInner (x .kind)) _ (left _ length (left _ name e)))
+    let held = holdsInner (x .kind) && eqb (x .kind) (y .kind) in
+    eqb-true (x .kind) (y .kind) (both (holdsInner (x .kind)) (eqb (x .kind) (y .kind)) (both held length (both (held && length) name e .0) .0) .1)
 
 -- A type that is like another is a concretization of it.
 pub like-concretization : (a b : List Layer) → like a b ≡ true → concretization a b ≡ true

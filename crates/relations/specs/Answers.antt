@@ -5,7 +5,8 @@ use Prim.Native.Nat.{ℕ}
 use Rattle.layers.specs.Layers.{Layer, layers}
 use Rattle.layers.specs.Answer.{Answer, next, truth}
 use Rattle.layers.specs.Check.{checkOf}
-use Rattle.relations.specs.Relations.{identical, equals, like, declared, concretization}
+use Rattle.equalities.specs.Equalities.{identical, equals}
+use Rattle.relations.specs.Relations.{like, declared, concretization}
 use Rattle.relations.specs.declared.related.Relation.{Relation}
 use Rattle.relations.specs.declared.related.Relation.the-variants as relation
 

@@ -1,34 +1,11 @@
--- "Relations", on runs of layers. A left and a right type; their outer layers are x and y, of the kinds k and l.
-use mathlib.Core.Bool.{Bool, true, false, cond, not, _&&_, _||_}
+-- "Relations": like, declared as and concretization, on runs of layers. A left and a right type; their outer layers are x and y, of the kinds k and l.
+use mathlib.Core.Bool.{Bool, true, cond, not, _&&_, _||_}
 use mathlib.Core.List.{List, [], _∷_}
 use Prim.Native.Nat.{ℕ}
 use lib.Dec.{eqb}
 use Rattle.kinds.specs.Kind as kind
-use Rattle.layers.specs.Layers.{Layer, layer, outer, inside, isSlice, holdsInner}
-
--- "identical: the same words (`==`)."
-abbrev pub sameLayer : Layer → Layer → Bool
-sameLayer x y = eqb (x .kind) (y .kind) && eqb (x .name) (y .name) && eqb (x .number) (y .number)
-
-unfoldable pub identical : List Layer → List Layer → Bool
-identical [] [] = true
-identical [] (y ∷ b) = false
-identical (x ∷ a) [] = false
-identical (x ∷ a) (y ∷ b) = sameLayer x y && identical a b
-
--- "equals: identical after a Char8 leaf is replaced by Uint8."
-abbrev pub plainKind : ℕ → ℕ
-plainKind k = cond (eqb k kind.char8) kind.uint8 k
-
-abbrev pub plainLayer : Layer → Layer
-plainLayer x = layer (plainKind (x .kind)) (x .name) (x .number)
-
-unfoldable pub plain : List Layer → List Layer
-plain [] = []
-plain (x ∷ a) = plainLayer x ∷ plain a
-
-unfoldable pub equals : List Layer → List Layer → Bool
-equals a b = identical (plain a) (plain b)
+use Rattle.layers.specs.Layers.{Layer, outer, inside, isSlice, holdsInner}
+use Rattle.equalities.specs.Equalities.{identical}
 
 -- "like (a, b): a is of kind 14, 15 or 18 and b is Arraylike: their elements are like. Otherwise identical."
 abbrev pub arrayMeetsArraylike : ℕ → ℕ → Bool

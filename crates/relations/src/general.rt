@@ -1,12 +1,13 @@
-use crate::same::identical;
+use equalities::identical;
 use kinds::Kind;
-use parts::inner;
-use parts::outer;
+use layers::holds_inner;
+use layers::inner;
+use layers::is_slice;
+use layers::outer;
 ghost use mathlib.Core.Path.{_≡_};
 ghost use Prim.Native.Nat.{_≤_};
 ghost use lib.ListN.{length};
-ghost use Rattle.layers.specs.Layers.{layers};
-ghost use Rattle.relations.specs.Heads.{head};
+ghost use Rattle.layers.specs.Layers.{layers, head};
 ghost use Rattle.relations.specs.Relations as rules;
 
 fn array_meets_arraylike(k: u64, l: u64) -> bool
@@ -70,15 +71,16 @@ fn same_holder(a: &[u64], b: &[u64]) -> bool
     ensures { λ r. ⌜ r ≡ rules.sameHolder (head (now (a .entry))) (head (now (b .entry))) ⌝ }
 {
     let k = a[0];
-    (((k == Kind::ARRAY)
-        | (k == Kind::ARRAY_WITH_NAMED_LENGTH)
-        | (k == Kind::ENDLESS_ARRAY)
-        | (k == Kind::ARRAYLIKE))
-        | ((k == Kind::SLICE) | (k == Kind::SLICE_POINTER))
-        | ((k == Kind::POINTER) | (k == Kind::VIEW)))
+    holds_inner(k)
         & (k == b[0])
         & ((k != Kind::ARRAY) | (a[2] == b[2]))
         & ((k != Kind::ARRAY_WITH_NAMED_LENGTH) | (a[1] == b[1]))
+}
+
+fn meets_arraylike(k: u64, l: u64) -> bool
+    ensures { λ r. ⌜ r ≡ rules.meetsArraylike k l ⌝ }
+{
+    array_meets_arraylike(k, l) | (is_slice(k) & (l == Kind::ARRAYLIKE))
 }
 
 // A Struct or a Word against an unresolved type with no name or the same name.
@@ -101,17 +103,14 @@ pub fn can_be_concretization_of(a: &[u64], b: &[u64]) -> bool
     if b.len() < 3 {
         return false;
     }
+    let element = &a[3..];
+    let held = &b[3..];
     if same_holder(a, b) {
-        return can_be_concretization_of(&a[3..], &b[3..]);
+        return can_be_concretization_of(element, held);
     }
     let k = a[0];
     let l = b[0];
-    if array_meets_arraylike(k, l) {
-        return is_like(&a[3..], &b[3..]);
-    }
-    let element = &a[3..];
-    let held = &b[3..];
-    if ((k == Kind::SLICE) | (k == Kind::SLICE_POINTER)) & (l == Kind::ARRAYLIKE) {
+    if meets_arraylike(k, l) {
         return is_like(element, held);
     }
     if slice_pointer_meets_pointer(k, l, outer(held)) {

@@ -1,8 +1,8 @@
 use crate::general::can_be_concretization_of;
 use crate::general::can_be_declared_as;
 use crate::general::is_like;
-use crate::same::equals;
-use crate::same::identical;
+use equalities::equals;
+use equalities::identical;
 use layers::Checked;
 use layers::Verdict;
 use layers::check_type;

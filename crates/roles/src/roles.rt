@@ -3,7 +3,7 @@ use kinds::Kind;
 use layers::Checked;
 use layers::Verdict;
 use layers::check_type;
-use parts::outer;
+use layers::outer;
 use sizes::Size;
 use sizes::known_size;
 ghost use mathlib.Core.Path.{_≡_};

@@ -2,7 +2,7 @@ use crate::answers::Bound;
 use crate::answers::Halves;
 use layers::Checked;
 use layers::check_type;
-use parts::outer;
+use layers::outer;
 ghost use mathlib.Core.Path.{_≡_};
 ghost use Rattle.layers.specs.Layers.{layers};
 ghost use Rattle.sizes.specs.Answer.{ofBound};

@@ -15,8 +15,9 @@ use Rattle.layers.specs.Answer.{given, nothing, refused}
 use Rattle.layers.specs.Layers.{layers}
 use Rattle.layers.specs.Check as check
 use Rattle.layers.specs.Check.{Place, at, nowhere, badCount, badLayer, misplaced, checkOf}
-use Rattle.relations.specs.Relations.{identical, concretization}
-use Rattle.relations.proofs.Theorems.{identical-reflexive}
+use Rattle.equalities.specs.Equalities.{identical}
+use Rattle.relations.specs.Relations.{concretization}
+use Rattle.equalities.proofs.Theorems.{identical-reflexive}
 use Rattle.buffers.specs.Written.{written}
 use Rattle.columns.specs.declared.symbol.Symbol.{Symbol}
 use Rattle.columns.specs.Rows.{vacant, free}

@@ -12,7 +12,7 @@ use Rattle.layers.specs.Answer.{given}
 use Rattle.layers.proofs.Words.{inner-layers}
 use Rattle.layers.proofs.Decide.{yes, no}
 use Rattle.sizes.specs.Depth.{pointerDepth}
-use Rattle.relations.specs.Relations.{identical}
+use Rattle.equalities.specs.Equalities.{identical}
 use Rattle.coercions.specs.Coercions.{coerces, addressCoerces}
 use Rattle.steps.specs.StepKind as of-step
 use Rattle.steps.specs.Steps.{step}

@@ -11,7 +11,7 @@ use Rattle.kinds.specs.Kind as kind
 use Rattle.layers.specs.Layers.{Layer, outer, inside}
 use Rattle.layers.specs.Answer.{given, refused}
 use Rattle.sizes.specs.Depth.{pointerDepth}
-use Rattle.relations.specs.Relations.{identical}
+use Rattle.equalities.specs.Equalities.{identical}
 use Rattle.coercions.specs.Coercions.{coerces, addressCoerces}
 use Rattle.layers.proofs.Decide.{both}
 use Rattle.steps.specs.StepKind as of-step

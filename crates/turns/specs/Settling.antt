@@ -10,7 +10,7 @@ use Rattle.layers.specs.Layers.{Layer, layer, outer, inside}
 use Rattle.layers.specs.Answer.{Answer, given, refused}
 use Rattle.parts.specs.Parts.{references}
 use Rattle.sizes.specs.Depth.{pointerDepth}
-use Rattle.relations.specs.Relations.{identical}
+use Rattle.equalities.specs.Equalities.{identical}
 use Rattle.coercions.specs.Coercions.{coerces, addressCoerces}
 use Rattle.steps.specs.StepKind as of-step
 use Rattle.steps.specs.Steps.{Step, step}

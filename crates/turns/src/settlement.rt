@@ -1,9 +1,9 @@
 use coercions::can_coerce_address_into;
 use coercions::can_coerce_into;
+use equalities::identical;
 use kinds::Kind;
-use parts::inner;
-use parts::outer;
-use relations::identical;
+use layers::inner;
+use layers::outer;
 use sizes::depth;
 ghost use mathlib.Core.Path.{_≡_};
 ghost use Rattle.layers.specs.Layers.{layers};

@@ -5,7 +5,8 @@ use mathlib.Core.Bool.{Bool, true, false, not, _&&_, _||_}
 use mathlib.Core.List.{List}
 use Rattle.layers.specs.Layers.{Layer}
 use Rattle.forms.specs.Formed.{wellFormed}
-use Rattle.relations.specs.Relations.{identical, declared, concretization}
+use Rattle.equalities.specs.Equalities.{identical}
+use Rattle.relations.specs.Relations.{declared, concretization}
 use Rattle.coercions.specs.Coercions.{coerces}
 use Rattle.updates.specs.Updates.{lineOf}
 use Rattle.updates.specs.declared.lines.Line.the-variants as line

@@ -15,8 +15,9 @@ use Rattle.layers.specs.Answer.{given, nothing, refused, next}
 use Rattle.layers.specs.Check.{badCount, badLayer, misplaced, checkOf, unless}
 use Rattle.layers.proofs.Checks.{start}
 use Rattle.forms.specs.Formed.{wellFormed}
-use Rattle.relations.specs.Relations.{identical, declared, concretization}
-use Rattle.relations.proofs.Theorems.{identical-reflexive}
+use Rattle.equalities.specs.Equalities.{identical}
+use Rattle.relations.specs.Relations.{declared, concretization}
+use Rattle.equalities.proofs.Theorems.{identical-reflexive}
 use Rattle.coercions.specs.Coercions.{coerces}
 use Rattle.buffers.specs.Written.{written}
 use Rattle.buffers.proofs.Writing.{fits, length-written}

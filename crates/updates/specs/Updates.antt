@@ -6,7 +6,8 @@ use lib.Dec.{eqb, ltb}
 use lib.ListN.{length, take}
 use Rattle.layers.specs.Layers.{Layer, layers}
 use Rattle.forms.specs.Formed.{wellFormed}
-use Rattle.relations.specs.Relations.{identical, declared, concretization}
+use Rattle.equalities.specs.Equalities.{identical}
+use Rattle.relations.specs.Relations.{declared, concretization}
 use Rattle.coercions.specs.Coercions.{coerces}
 use Rattle.buffers.specs.Written.{written}
 use Rattle.columns.specs.declared.symbol.Symbol.{Symbol}

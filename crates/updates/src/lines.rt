@@ -1,8 +1,8 @@
 use coercions::can_coerce_into;
+use equalities::identical;
 use forms::is_wellformed;
 use relations::can_be_concretization_of;
 use relations::can_be_declared_as;
-use relations::identical;
 ghost use mathlib.Core.Path.{_≡_};
 ghost use Rattle.layers.specs.Layers.{layers};
 ghost use Rattle.updates.specs.Updates.{lineOf};

@@ -1,6 +1,6 @@
 use kinds::Kind;
-use parts::inner;
-use parts::outer;
+use layers::inner;
+use layers::outer;
 use steps::StepKind;
 ghost use mathlib.Core.Path.{_≡_};
 ghost use Rattle.layers.specs.Layers as layers;

@@ -4,9 +4,9 @@ use borrow.Author.Needs.{needs}
 use borrow.Fn.PlainCycle.{Measures}
 use Rattle.layers.proofs.Cycle.{at, below}
 use Rattle.layers.proofs.Words.{shorter}
-use Rattle.parts.proofs.inner.Reads as inner
-use Rattle.parts.proofs.outer.Reads as outer
-use Rattle.relations.proofs.equals.Reads as equals
+use Rattle.layers.proofs.inner.Reads as inner
+use Rattle.layers.proofs.outer.Reads as outer
+use Rattle.equalities.proofs.equals.Reads as equals
 use Rattle.coercions.proofs.Dereferences.{sub-none, sub-equal, sub-inside, sub-held, sub-no-other, sub-other}
 use Rattle.coercions.proofs.autoderef.can_subautoderef_into.Reads.{Pre, Post}
 use Rattle.coercions.proofs.autoderef.can_subautoderef_into.Kinds.{ps}

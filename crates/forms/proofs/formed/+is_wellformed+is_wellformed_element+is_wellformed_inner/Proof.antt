@@ -5,9 +5,9 @@ use borrow.Fn.PlainCycle.{Measures}
 use Rattle.layers.proofs.Cycle.{at, below}
 use Rattle.layers.proofs.Words.{shorter-by}
 use Rattle.forms.proofs.Fits.{formed-none, type-array, type-reference, type-leaf, element-none, element-held, element-not, inner-none, inner-array, inner-pointer, inner-not, inner-leaf}
-use Rattle.forms.proofs.formed.is_array.Reads as is-array
-use Rattle.forms.proofs.formed.is_slice.Reads as is-slice
-use Rattle.forms.proofs.formed.is_reference.Reads as is-reference
+use Rattle.layers.proofs.is_array.Reads as is-array
+use Rattle.layers.proofs.is_slice.Reads as is-slice
+use Rattle.layers.proofs.is_reference.Reads as is-reference
 use Rattle.forms.proofs.formed.can_be_element.Reads as can-be-element
 use Rattle.forms.proofs.formed.is_wellformed.Reads as whole
 use Rattle.forms.proofs.formed.is_wellformed_element.Reads as element

@@ -4,6 +4,7 @@ use borrow.Author.Needs.{needs}
 use borrow.Fn.PlainCycle.{Measures}
 use Rattle.layers.proofs.Cycle.{at, below}
 use Rattle.layers.proofs.Words.{shorter}
+use Rattle.layers.proofs.is_reference.Reads as is-reference
 use Rattle.parts.proofs.Dereferenced.{plain-none, plain, through}
 use Rattle.parts.proofs.inside.fully_dereferenced.Reads.{Pre, Post}
 use Rattle.parts.proofs.inside.fully_dereferenced.Kinds.{ps}
@@ -15,9 +16,10 @@ abbrev μ : Measures 1 ps ℕ
 μ κs a = length (a .0 .now)
 
 pub +fully-dereferenced-spec : {M : Type 1} → statement M
-+fully-dereferenced-spec = close μ λ t. spec (below 1 ps μ Pre t, Post) (at 1 ps μ Pre t) Post
++fully-dereferenced-spec = close μ λ t. spec (is-reference.Asked, is-reference.Learnt, below 1 ps μ Pre t, Post) (at 1 ps μ Pre t) Post
     (λ c. search plain-none)
     (λ c. search needs)
+    (λ c κs. search needs)
     (λ c. search needs)
     (λ c. search needs)
     (λ c. search needs)

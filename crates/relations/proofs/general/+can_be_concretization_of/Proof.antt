@@ -2,15 +2,15 @@ use Prim.Native.Nat.{ℕ}
 use lib.ListN.{length}
 use borrow.Author.Needs.{needs}
 use borrow.Fn.PlainCycle.{Measures}
+use Rattle.equalities.proofs.identical.Reads as identical
 use Rattle.layers.proofs.Cycle.{at, below}
 use Rattle.layers.proofs.Words.{shorter}
-use Rattle.parts.proofs.inner.Reads as inner
-use Rattle.parts.proofs.outer.Reads as outer
-use Rattle.relations.proofs.Decisions.{concrete-none, concrete-less, concrete-in, concrete-array, concrete-slice, concrete-pointer, concrete-resolved, concrete-same}
-use Rattle.relations.proofs.same.identical.Reads as identical
+use Rattle.layers.proofs.inner.Reads as inner
+use Rattle.layers.proofs.outer.Reads as outer
+use Rattle.relations.proofs.Decisions.{concrete-none, concrete-less, concrete-in, concrete-like, concrete-pointer, concrete-resolved, concrete-same}
 use Rattle.relations.proofs.general.is_like.Reads as is-like
 use Rattle.relations.proofs.general.same_holder.Reads as same-holder
-use Rattle.relations.proofs.general.array_meets_arraylike.Reads as array-meets-arraylike
+use Rattle.relations.proofs.general.meets_arraylike.Reads as meets-arraylike
 use Rattle.relations.proofs.general.slice_pointer_meets_pointer.Reads as slice-pointer-meets-pointer
 use Rattle.relations.proofs.general.resolves.Reads as resolves
 use Rattle.relations.proofs.general.can_be_concretization_of.Reads.{Pre, Post}
@@ -28,8 +28,8 @@ pub +can-be-concretization-of-spec : {M : Type 1} → statement M
   same-holder.Learnt,
   below 2 ps μ Pre t,
   Post,
-  array-meets-arraylike.Asked,
-  array-meets-arraylike.Learnt,
+  meets-arraylike.Asked,
+  meets-arraylike.Learnt,
   is-like.Asked,
   is-like.Learnt,
   outer.Asked,
@@ -45,34 +45,20 @@ pub +can-be-concretization-of-spec : {M : Type 1} → statement M
 ) (at 2 ps μ Pre t) Post
     (λ c. search concrete-none)
     (λ c. search concrete-less)
+    (λ c. search needs)
+    (λ c. search needs)
+    (λ c. search needs)
+    (λ c. search needs)
+    (λ c. search needs)
+    (λ c. search needs)
     (λ c κs. search needs)
-    (λ c. search needs)
-    (λ c. search needs)
-    (λ c. search needs)
-    (λ c. search needs)
-    (λ c. search needs)
-    (λ c. search needs)
     (λ c κs. search (needs, shorter))
     (λ c. search concrete-in)
     (λ c. search needs)
     (λ c. search needs)
     (λ c κs. search needs)
-    (λ c. search needs)
-    (λ c. search needs)
-    (λ c. search needs)
-    (λ c. search needs)
-    (λ c. search needs)
-    (λ c. search needs)
-    (λ c κs. search (needs, shorter))
-    (λ c. search concrete-array)
-    (λ c. search needs)
-    (λ c. search needs)
-    (λ c. search needs)
-    (λ c. search needs)
-    (λ c. search needs)
-    (λ c. search needs)
-    (λ c κs. search (needs, shorter))
-    (λ c. search concrete-slice)
+    (λ c κs. search needs)
+    (λ c. search concrete-like)
     (λ c κs. search needs)
     (λ c κs. search needs)
     (λ c κs. search needs)

@@ -4,8 +4,8 @@ use borrow.Author.Needs.{needs}
 use borrow.Fn.PlainCycle.{Measures}
 use Rattle.layers.proofs.Cycle.{at, below}
 use Rattle.layers.proofs.Words.{shorter}
-use Rattle.relations.proofs.Steps.{like-none, like-less, like-in, like-out}
-use Rattle.relations.proofs.same.identical.Reads as identical
+use Rattle.relations.proofs.Decisions.{like-none, like-less, like-in, like-out}
+use Rattle.equalities.proofs.identical.Reads as identical
 use Rattle.relations.proofs.general.array_meets_arraylike.Reads as array-meets-arraylike
 use Rattle.relations.proofs.general.is_like.Reads.{Pre, Post}
 use Rattle.relations.proofs.general.is_like.Kinds.{ps}

@@ -1,4 +1,5 @@
 use borrow.Author.Needs.{needs}
+use Rattle.relations.proofs.Decisions.{holder-by}
 use Rattle.relations.proofs.general.same_holder.Statement.{statement}
 use Rattle.relations.proofs.general.same_holder.Tie as tie
 
@@ -7,9 +8,10 @@ same-holder-spec =
     tie.close
     (tie.spec
     (λ c. search needs)
+    (λ c κs. search needs)
     (λ c. search needs)
     (λ c. search needs)
     (λ c. search needs)
     (λ c. search needs)
     (λ c. search needs)
-    (λ c. search needs))
+    (λ c. search holder-by))

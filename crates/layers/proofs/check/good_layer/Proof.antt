@@ -1,7 +1,0 @@
-use borrow.Author.Needs.{needs}
-use Rattle.layers.proofs.Within.{no-kind, within}
-use Rattle.layers.proofs.check.good_layer.Statement.{statement}
-use Rattle.layers.proofs.check.good_layer.Tie as tie
-
-pub good-layer-spec : {M : Type 1} → statement M
-good-layer-spec = tie.close (tie.spec (λ c. search no-kind) (λ c κs. search needs) (λ c. search (within, needs)))

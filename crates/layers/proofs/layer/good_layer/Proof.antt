@@ -1,0 +1,12 @@
+use borrow.Author.Needs.{needs}
+use Rattle.layers.proofs.Within.{layer-within}
+use Rattle.layers.proofs.layer.good_layer.Statement.{statement}
+use Rattle.layers.proofs.layer.good_layer.Tie as tie
+
+pub good-layer-spec : {M : Type 1} → statement M
+good-layer-spec =
+    tie.close
+    (tie.spec
+    (λ c κs. search needs)
+    (λ c κs. search needs)
+    (λ c. search layer-within))
