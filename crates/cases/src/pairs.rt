@@ -3,8 +3,8 @@ use crate::report::verdict;
 use crate::types::TYPES;
 use crate::types::Type;
 use crate::types::type_at;
-use coercions::Coercion;
-use relations::Relation;
+use questions::Coercion;
+use questions::Relation;
 
 // The words of a type.
 pub(crate) fn words(t: &[u64], count: usize) -> &[u64] {
@@ -12,16 +12,16 @@ pub(crate) fn words(t: &[u64], count: usize) -> &[u64] {
 }
 
 fn related(a: &[u64], b: &[u64]) {
-    verdict(relations::relates(Relation::Identical, a, b));
-    verdict(relations::relates(Relation::Equals, a, b));
-    verdict(relations::relates(Relation::Like, a, b));
-    verdict(relations::relates(Relation::DeclaredAs, a, b));
-    verdict(relations::relates(Relation::ConcretizationOf, a, b));
+    verdict(questions::relates(Relation::Identical, a, b));
+    verdict(questions::relates(Relation::Equals, a, b));
+    verdict(questions::relates(Relation::Like, a, b));
+    verdict(questions::relates(Relation::DeclaredAs, a, b));
+    verdict(questions::relates(Relation::ConcretizationOf, a, b));
     text(b" |");
-    verdict(coercions::coerces(Coercion::Value, a, b));
-    verdict(coercions::coerces(Coercion::Address, a, b));
-    verdict(coercions::coerces(Coercion::Autoderef, a, b));
-    verdict(coercions::coerces(Coercion::Subautoderef, a, b));
+    verdict(questions::coerces(Coercion::Value, a, b));
+    verdict(questions::coerces(Coercion::Address, a, b));
+    verdict(questions::coerces(Coercion::Autoderef, a, b));
+    verdict(questions::coerces(Coercion::Subautoderef, a, b));
     text(b"\n");
 }
 

@@ -1,6 +1,5 @@
 -- What the proofs of several functions use.
 pub mod Decisions
 pub mod Dereferences
-pub mod Told
 pub mod Theorems
 pub mod Single

@@ -1,15 +1,12 @@
 -- Each public contract allows one result: any two that it allows of the same arguments coincide.
 -- Assumes nothing.
 use mathlib.Core.Path.{sym, _∙_}
-use Rattle.layers.proofs.Apart.{verdict-apart}
 use Rattle.layers.proofs.Single.{Single}
 use Rattle.coercions.proofs.coerce.can_coerce_into.Kinds.{ps, r}
 use Rattle.coercions.proofs.coerce.can_coerce_into.Reads as can-coerce-into
 use Rattle.coercions.proofs.coerce.can_coerce_address_into.Reads as can-coerce-address-into
 use Rattle.coercions.proofs.autoderef.can_autoderef_into.Reads as can-autoderef-into
 use Rattle.coercions.proofs.autoderef.can_subautoderef_into.Reads as can-subautoderef-into
-use Rattle.coercions.proofs.asked.coerces.Kinds as coerces-kinds
-use Rattle.coercions.proofs.asked.coerces.Reads as coerces
 
 pub can-coerce-into-single : Single 2 ps r can-coerce-into.Post
 can-coerce-into-single κs a x y s t p q = p ∙ sym q
@@ -22,6 +19,3 @@ can-autoderef-into-single κs a x y s t p q = p ∙ sym q
 
 pub can-subautoderef-into-single : Single 2 ps r can-subautoderef-into.Post
 can-subautoderef-into-single κs a x y s t p q = p ∙ sym q
-
-pub coerces-single : Single 2 coerces-kinds.ps coerces-kinds.r coerces.Post
-coerces-single κs a x y s t p q = verdict-apart x y (p ∙ sym q)

@@ -1,2 +1,1 @@
 pub mod Coercions
-pub mod Answers

@@ -10,7 +10,7 @@ use lib.ListN.{length, drop, getD, length-drop, drop-of-length-le}
 use lib.Seq.{drop-drop, getD-drop}
 use borrow.Author.Tests.{ltb-false, eqb-true, eqb-false, eq-eqb, ne-eqb, not-true}
 use Rattle.layers.specs.Layers.{Layer, layer, layers, holdsInner}
-use Rattle.layers.specs.Answer.{Answer, given, nothing, refused}
+use Rattle.layers.specs.Answer.{given, refused}
 use Rattle.layers.specs.Check.{Place, at, nowhere, badCount, goodLayer, badLayer, misplaced, unless, checkOf, isGood}
 use Rattle.layers.proofs.Words.{none, more-drop}
 

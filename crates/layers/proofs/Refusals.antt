@@ -1,9 +1,10 @@
 -- An entry's answer, by what the checks of its words said.
 -- Assumes nothing.
-use mathlib.Core.Path.{_≡_}
-use mathlib.Core.Bool.{Bool}
+use mathlib.Core.Path.{_≡_, refl, sym, ap, _∙_}
+use mathlib.Core.Bool.{Bool, true, false, true≢false, false≢true}
 use Prim.Native.Nat.{ℕ}
-use Rattle.layers.specs.Answer.{Answer, refused, ofChecked, next, truth}
+use Rattle.layers.specs.Answer.{Answer, given, nothing, refused, ofChecked, next, truth}
+use Rattle.layers.specs.Check.{isGood}
 use Rattle.layers.specs.declared.answers.Checked.{Checked}
 use Rattle.layers.specs.declared.answers.Checked.the-variants.{Good, Refused}
 
@@ -17,3 +18,23 @@ module _ {A : Type 0} (x : Checked) (a : Answer ℕ) (e : ofChecked x ≡ a) (c 
 -- yes or no, where the code holds the rule's outcome
 pub answered : (f g : Bool) (r : Answer ℕ) → r ≡ truth f → f ≡ g → r ≡ truth g
 answered f g r q e = rw e at q
+
+-- the checks of two types, by whether the left one passes
+module _ (x y : Answer ℕ) (good : Bool) (e : good ≡ isGood x) where
+  pub left-passes : (r : Answer ℕ) → good ≡ true → r ≡ y → r ≡ next x y
+  left-passes r f q = by-answer x (sym e ∙ f)
+    where
+      by-answer : (z : Answer ℕ) → isGood z ≡ true → r ≡ next z y
+      by-answer (given n) g = q
+      by-answer nothing g = absurd (false≢true g)
+      by-answer (refused n p) g = absurd (false≢true g)
+
+  pub left-fails : (v : Checked) → good ≡ false → ofChecked v ≡ x → ofChecked v ≡ next x y
+  left-fails (Good n) f q = absurd (true≢false (ap isGood q ∙ (sym e ∙ f)))
+  left-fails (Refused n p) f q = rw (← q)
+
+-- what follows the checks of two types
+pub next-next : {A B C : Type 0} (x : Answer A) (y : Answer B) (c : Answer C) → next (next x y) c ≡ next x (next y c)
+next-next (given v) y c = refl
+next-next nothing y c = refl
+next-next (refused n p) y c = refl

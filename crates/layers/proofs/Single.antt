@@ -10,6 +10,8 @@ use borrow.Fn.Kinds.{PK, RK, Out, Dens, resT, endedOf}
 use Rattle.layers.proofs.Apart.{checked-apart, verdict-apart}
 use Rattle.layers.proofs.check.check_type.Kinds as check-type-kinds
 use Rattle.layers.proofs.check.check_type.Reads as check-type
+use Rattle.layers.proofs.check.check_types.Kinds as check-types-kinds
+use Rattle.layers.proofs.check.check_types.Reads as check-types
 use Rattle.layers.proofs.check.is_type.Kinds as is-type-kinds
 use Rattle.layers.proofs.check.is_type.Reads as is-type
 use Rattle.layers.proofs.layer.is_array.Kinds as is-array-kinds
@@ -33,6 +35,9 @@ Single n ps r Q =
 
 pub check-type-single : Single 1 check-type-kinds.ps check-type-kinds.r check-type.Post
 check-type-single κs a x y s t p q = checked-apart x y (p ∙ sym q)
+
+pub check-types-single : Single 2 check-types-kinds.ps check-types-kinds.r check-types.Post
+check-types-single κs a x y s t p q = checked-apart x y (p ∙ sym q)
 
 pub of-single : Single 0 of-kinds.ps of-kinds.r of.Post
 of-single κs a x y s t p q = verdict-apart x y (p ∙ sym q)

@@ -5,7 +5,7 @@ ghost use mathlib.Core.Path.{_≡_};
 ghost use mathlib.Core.Bool.{cond, not, _&&_};
 ghost use lib.Dec.{eqb};
 ghost use Rattle.layers.specs.Layers.{holdsInner};
-ghost use Rattle.layers.specs.Answer.{ofChecked};
+ghost use Rattle.layers.specs.Answer.{next, ofChecked};
 ghost use Rattle.layers.specs.Check.{badCount, checkOf, isGood};
 
 // The place of no layer: a type has at most 16, from 0.
@@ -98,5 +98,16 @@ pub fn check_type(ws: &[u64]) -> Checked
         Checked::Good((ws.len() / 3) as u64)
     } else {
         first_refusal(ws)
+    }
+}
+
+// The checks of two types, left before right.
+pub fn check_types(a: &[u64], b: &[u64]) -> Checked
+    ensures { λ r. ⌜ ofChecked r ≡ next (checkOf (now (a .entry))) (checkOf (now (b .entry))) ⌝ }
+{
+    if is_type(a) {
+        check_type(b)
+    } else {
+        first_refusal(a)
     }
 }

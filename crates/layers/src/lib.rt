@@ -7,6 +7,7 @@ mod outside;
 pub use answers::Checked;
 pub use answers::Verdict;
 pub use check::check_type;
+pub use check::check_types;
 pub use check::is_type;
 pub use layer::holds_inner;
 pub use layer::is_array;

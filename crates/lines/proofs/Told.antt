@@ -12,9 +12,10 @@ use Rattle.buffers.proofs.Writing.{fits, length-written}
 use Rattle.layers.specs.Answer.{given, refused, ofChecked}
 use Rattle.layers.specs.declared.answers.Checked.{Checked}
 use Rattle.layers.specs.declared.answers.Checked.the-variants as checked
-use Rattle.sheets.specs.Sheet.{types, wholeWords, readSheet}
+use Rattle.words.specs.Little.{wholeWords}
+use Rattle.sheets.specs.Sheet.{types, readSheet}
 use Rattle.sheets.proofs.Read.{Read, was-read, small-number}
-use Rattle.sheets.proofs.Decoding.{words-back}
+use Rattle.words.proofs.Decoding.{words-back}
 use Rattle.lines.specs.Put.{putAt}
 use Rattle.lines.specs.Text.{header, rows, refusal, text}
 use Rattle.lines.proofs.Putting.{digits-few}

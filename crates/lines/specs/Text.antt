@@ -8,7 +8,8 @@ use Rattle.layers.specs.Layers.{layers}
 use Rattle.equalities.specs.Equalities.{equals}
 use Rattle.relations.specs.Relations as relation
 use Rattle.coercions.specs.Coercions as coercion
-use Rattle.sheets.specs.Sheet.{types, wholeWords, readSheet}
+use Rattle.words.specs.Little.{wholeWords}
+use Rattle.sheets.specs.Sheet.{types, readSheet}
 
 abbrev space : ℕ
 space = 32

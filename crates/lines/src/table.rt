@@ -4,7 +4,7 @@ use crate::put::put_number;
 use layers::Checked;
 use sheets::read_sheet;
 use sheets::type_at;
-use sheets::words_of;
+use words::words_of;
 ghost use mathlib.Core.Path.{_≡_};
 ghost use mathlib.Core.List.{_++_};
 ghost use Prim.Native.Nat.{_+_, _*_, _≤_, _<_};

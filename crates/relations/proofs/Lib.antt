@@ -1,5 +1,4 @@
 -- What the proofs of several functions use.
 pub mod Decisions
-pub mod Told
 pub mod Theorems
 pub mod Single

@@ -18,7 +18,7 @@ fn array_meets_arraylike(k: u64, l: u64) -> bool
 }
 
 // Whether a type is like another: the same, but that arrays may stand where the other has an Arraylike.
-pub(crate) fn is_like(a: &[u64], b: &[u64]) -> bool
+pub fn is_like(a: &[u64], b: &[u64]) -> bool
     ensures { λ r. ⌜ r ≡ rules.like (layers (now (a .entry))) (layers (now (b .entry))) ⌝ }
 {
     if a.len() < 3 {

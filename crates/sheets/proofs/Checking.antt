@@ -14,11 +14,12 @@ use Rattle.layers.specs.Answer.{Answer, given, next, ofChecked}
 use Rattle.layers.specs.Check.{checkOf}
 use Rattle.layers.specs.declared.answers.Checked.{Checked}
 use Rattle.layers.specs.declared.answers.Checked.the-variants as checked
-use Rattle.sheets.specs.Sheet.{isSheet, count, typesIn, types, typeAt, checkAll, badSheet, wholeWords, readWords, readSheet}
+use Rattle.words.specs.Little.{wholeWords}
+use Rattle.sheets.specs.Sheet.{isSheet, count, typesIn, types, typeAt, checkAll, badSheet, readWords, readSheet}
 use Rattle.sheets.proofs.Shape.{sheet-known}
 use Rattle.buffers.specs.Written.{written}
 use Rattle.buffers.proofs.Writing.{length-written}
-use Rattle.sheets.proofs.Decoding.{length-words, words-back}
+use Rattle.words.proofs.Decoding.{length-words, words-back}
 use Rattle.sheets.proofs.Places.{how-many, sheet-short}
 
 module _ (ws : List ℕ) (n : ℕ) (e : n ≡ typesIn ws) where

@@ -1,5 +1,4 @@
 -- What follows from the definition of a sheet.
-pub mod Decoding
 pub mod Counts
 pub mod Shape
 pub mod Places

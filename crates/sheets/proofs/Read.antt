@@ -12,8 +12,9 @@ use Rattle.layers.specs.Answer.{Answer, given, nothing, refused, next}
 use Rattle.layers.specs.Check.{Place, at, nowhere, unless, badCount, badLayer, misplaced, checkOf}
 use Rattle.layers.specs.Layers.{layers}
 use Rattle.layers.proofs.Given.{not-given, given-is}
-use Rattle.sheets.specs.Sheet.{isSheet, count, wholeWords, typesIn, types, checkAll, badSheet, readWords, readSheet}
-use Rattle.sheets.proofs.Decoding.{length-words}
+use Rattle.words.specs.Little.{wholeWords}
+use Rattle.sheets.specs.Sheet.{isSheet, count, typesIn, types, checkAll, badSheet, readWords, readSheet}
+use Rattle.words.proofs.Decoding.{length-words}
 use Rattle.sheets.proofs.Shape.{sheet-known}
 use Rattle.sheets.proofs.Places.{how-many, sheet-short}
 

@@ -7,17 +7,12 @@ use denote.Triple.Clauses.{AtExit}
 use borrow.Fn.Kinds.{Dens, resT, endedOf}
 use Rattle.layers.proofs.Apart.{checked-apart}
 use Rattle.layers.proofs.Single.{Single}
-use Rattle.sheets.proofs.words.words_of.Kinds as words-of-kinds
-use Rattle.sheets.proofs.words.words_of.Reads as words-of
 use Rattle.sheets.proofs.contents.type_at.Kinds as type-at-kinds
 use Rattle.sheets.proofs.contents.type_at.Reads as type-at
 use Rattle.sheets.proofs.reading.read_words.Kinds as read-words-kinds
 use Rattle.sheets.proofs.reading.read_words.Reads as read-words
 use Rattle.sheets.proofs.reading.read_sheet.Kinds as read-sheet-kinds
 use Rattle.sheets.proofs.reading.read_sheet.Reads as read-sheet
-
-pub words-of-single : Single 1 words-of-kinds.ps words-of-kinds.r words-of.Post
-words-of-single κs a x y s t p q = p ∙ sym q
 
 pub read-words-single : Single 1 read-words-kinds.ps read-words-kinds.r read-words.Post
 read-words-single κs a x y s t p q = checked-apart x y (p ∙ sym q)

@@ -4,21 +4,9 @@ use mathlib.Core.List.{List, [], _∷_}
 use Prim.Native.Nat.{ℕ, zero, suc, _+_, _*_, _/_, _%_}
 use lib.Dec.{eqb, leb}
 use lib.ListN.{length, take, drop, getD}
+use Rattle.words.specs.Little.{wholeWords}
 use Rattle.layers.specs.Answer.{Answer, given, refused, next}
 use Rattle.layers.specs.Check.{checkOf}
-
--- "Little-endian": the lowest byte first.
-unfoldable pub little : List ℕ → ℕ
-little [] = 0
-little (b ∷ bs) = b + 256 * little bs
-
--- "u64 words": so many words, of eight bytes each.
-unfoldable pub wordsOf : ℕ → List ℕ → List ℕ
-wordsOf zero bs = []
-wordsOf (suc n) bs = little (take 8 bs) ∷ wordsOf n (drop 8 bs)
-
-abbrev pub wholeWords : List ℕ → List ℕ
-wholeWords bs = wordsOf (length bs / 8) bs
 
 -- From 1 to a limit.
 abbrev pub upTo : ℕ → ℕ → Bool

@@ -1,8 +1,8 @@
 use crate::contents::type_at;
 use crate::contents::types_in;
-use crate::words::words_of;
 use layers::Checked;
 use layers::check_type;
+use words::words_of;
 ghost use mathlib.Core.Path.{_≡_};
 ghost use Rattle.layers.specs.Answer.{ofChecked};
 ghost use Rattle.sheets.specs.Sheet as sheet;

@@ -1,0 +1,21 @@
+use borrow.Author.Needs.{needs}
+use Rattle.questions.proofs.Told.{coercion-told}
+use Rattle.questions.proofs.coerce.passes.Statement.{statement}
+use Rattle.questions.proofs.coerce.passes.Tie as tie
+
+pub passes-spec : {M : Type 1} → statement M
+passes-spec =
+    tie.close
+    (tie.spec
+    (λ c. search needs)
+    (λ c κs. search needs)
+    (λ c. search needs)
+    (λ c κs. search needs)
+    (λ c. search needs)
+    (λ c κs. search needs)
+    (λ c. search needs)
+    (λ c κs. search needs)
+    (λ c. search coercion-told)
+    (λ c. search coercion-told)
+    (λ c. search coercion-told)
+    (λ c. search coercion-told))

@@ -1,0 +1,4 @@
+// Bytes read as words, the lowest byte first.
+mod decode;
+
+pub use decode::words_of;
