@@ -12,14 +12,10 @@ use lib.ListN.{length, take, drop, getD, set, length-take, length-drop, length-s
 use lib.Seq.{take-all, drop-drop, getD-set-same, getD-set-other}
 use borrow.Author.Tests.{lt-leb, eq-eqb, ne-eqb, eqb-true, eqb-false}
 use Rattle.layers.proofs.Decide.{both}
-use Rattle.layers.specs.Answer.{ofChecked}
-use Rattle.layers.specs.Check.{checkOf}
-use Rattle.layers.specs.declared.answers.Checked.{Checked}
-use Rattle.layers.specs.declared.answers.Checked.the-variants.{Good, Refused}
 use Rattle.columns.specs.declared.symbol.Symbol.{Symbol}
 use Rattle.columns.specs.Rows.{free, rowAt, readFrom}
 use Rattle.columns.proofs.Reading.{from, read-more, read-end, read-all, read-last, length-read}
-use Rattle.orders.specs.Order.{knownStates, allFree, takenFirst, taken, hasId, repeats, isGood, passes, allPass, inOrder}
+use Rattle.orders.specs.Order.{knownStates, allFree, takenFirst, taken, hasId, repeats, passes, allPass, inOrder}
 use Rattle.orders.specs.Standing.{stands, Noted}
 use Rattle.orders.proofs.Ordered.{ordered, in-order, none-taken, or-false}
 
@@ -321,13 +317,6 @@ pub id-start : (ws : List ℕ) (n id : ℕ) → (false || hasId id (from ws n 0)
 id-start ws n id = ap (hasId id) (read-all ws n)
 
 -- a record's words
-module _ (x : Checked) (ws : List ℕ) (g : ofChecked x ≡ checkOf ws) where
-  pub good-words : (n : ℕ) → x ≡ Good n → true ≡ isGood (checkOf ws)
-  good-words n h = rw (← g, h)
-
-  pub bad-words : (n p : ℕ) → x ≡ Refused n p → false ≡ isGood (checkOf ws)
-  bad-words n p h = rw (← g, h)
-
 pub words : (w : List ℕ) (n : ℕ) → 48 ≤ length w → n ≤ 16 → length (take (n * 3) w) ≡ n * 3
 words w n h l = simp length-take (omega arith)
 

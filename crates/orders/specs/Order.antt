@@ -4,8 +4,7 @@ use mathlib.Core.List.{List, [], _∷_}
 use Prim.Native.Nat.{ℕ, _*_}
 use lib.Dec.{eqb, leb}
 use lib.ListN.{length, take, drop}
-use Rattle.layers.specs.Answer.{Answer, given, nothing, refused}
-use Rattle.layers.specs.Check.{checkOf}
+use Rattle.layers.specs.Check.{checkOf, isGood}
 use Rattle.columns.specs.declared.symbol.Symbol.{Symbol}
 use Rattle.columns.specs.Rows.{free}
 
@@ -37,11 +36,6 @@ repeats [] = false
 repeats (s ∷ table) = hasId (s .id) table || repeats table
 
 -- "each typed record's words pass checks 1-3": a type of more than 16 layers has no room in 48 words.
-abbrev pub isGood : Answer ℕ → Bool
-isGood (given n) = true
-isGood nothing = false
-isGood (refused n p) = false
-
 unfoldable pub passes : ℕ → ℕ → List ℕ → Bool
 passes state layers words = cond (eqb state 1) (cond (leb layers 16) (isGood (checkOf (take (layers * 3) words))) false) true
 

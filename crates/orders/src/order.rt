@@ -1,5 +1,4 @@
-use layers::Checked;
-use layers::check_type;
+use layers::is_type;
 ghost use mathlib.Core.Path.{_≡_};
 ghost use Prim.Native.Nat.{_*_, _≤_, _<_};
 ghost use lib.ListN.{length, getD};
@@ -47,13 +46,7 @@ fn passes(state: u64, layers: u64, words: &[u64]) -> bool
         return false;
     }
     let n = (layers * 3) as usize;
-    match check_type(&words[..n]) {
-        Checked::Good(_) => true,
-        Checked::Refused {
-            number: _,
-            place: _,
-        } => false,
-    }
+    is_type(&words[..n])
 }
 
 // Whether the record of row k can stand after those before it, one of which is free or none.

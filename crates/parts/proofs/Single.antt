@@ -1,6 +1,6 @@
 -- Each public contract allows one result: any two that it allows of the same arguments coincide.
 -- Assumes nothing.
-use mathlib.Core.Path.{_≡_, sym, _∙_}
+use mathlib.Core.Path.{sym, _∙_}
 use Rattle.layers.proofs.Single.{Single, SinglePart}
 use Rattle.parts.proofs.Apart.{start-apart}
 use Rattle.parts.proofs.inside.get_element_type.Reads as element

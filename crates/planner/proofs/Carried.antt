@@ -10,7 +10,7 @@ use lib.Seq.{take-at}
 use borrow.Author.Tests.{ltb-true, ltb-false}
 use Rattle.layers.specs.Layers.{Layer, layers, spelled}
 use Rattle.layers.specs.Answer.{Answer, given, nothing, refused, next}
-use Rattle.layers.specs.Check.{checkOf}
+use Rattle.layers.specs.Check.{checkOf, isGood}
 use Rattle.layers.proofs.Given.{not-given, nothing-given, given-is}
 use Rattle.layers.proofs.Accepted.{goodLayers, accepted-good}
 use Rattle.layers.proofs.Spelling.{spelled-length, layers-spelled}
@@ -20,7 +20,7 @@ use Rattle.columns.specs.declared.symbol.Symbol.{Symbol}
 use Rattle.columns.specs.Rows as rows
 use Rattle.columns.specs.Rows.{vacant}
 use Rattle.columns.specs.Search.{slotFor}
-use Rattle.orders.specs.Order.{isGood, passes, inOrder}
+use Rattle.orders.specs.Order.{passes, inOrder}
 use Rattle.orders.proofs.Ordered.{ordered, pass-at}
 use Rattle.steps.specs.Steps.{steps, stepWords}
 use Rattle.steps.proofs.Words.{words-length, words-back}

@@ -14,13 +14,13 @@ use Rattle.layers.specs.Answer as paper
 use Rattle.layers.specs.Answer.{given, refused}
 use Rattle.layers.specs.Layers.{layers}
 use Rattle.layers.specs.Check as check
-use Rattle.layers.specs.Check.{Place, at, nowhere, badCount, badLayer, misplaced, checkOf}
+use Rattle.layers.specs.Check.{Place, at, nowhere, badCount, badLayer, misplaced, checkOf, isGood}
 use Rattle.layers.proofs.Checks.{start}
 use Rattle.buffers.specs.Written.{written}
 use Rattle.buffers.proofs.Writing.{fits, length-written}
 use Rattle.columns.specs.declared.symbol.Symbol.{Symbol}
 use Rattle.columns.specs.Rows.{free}
-use Rattle.orders.specs.Order.{isGood, passes}
+use Rattle.orders.specs.Order.{passes}
 use Rattle.answers.specs.declared.flat.Answer.{Answer}
 use Rattle.answers.specs.Flat.{accepted}
 use Rattle.updates.proofs.Cases.{by-lines}

@@ -14,8 +14,8 @@ use borrow.Author.Tests.{leb-true, eqb-false, eq-eqb, ne-eqb}
 use Rattle.columns.specs.declared.symbol.Symbol.{Symbol}
 use Rattle.columns.specs.Rows.{vacant, free}
 use Rattle.columns.specs.Search.{firstFree, slotFor}
-use Rattle.orders.specs.Order.{knownStates, allFree, takenFirst, taken, hasId, repeats, passes, isGood, allPass}
-use Rattle.layers.specs.Check.{checkOf}
+use Rattle.orders.specs.Order.{knownStates, allFree, takenFirst, taken, hasId, repeats, passes, allPass}
+use Rattle.layers.specs.Check.{checkOf, isGood}
 use Rattle.layers.proofs.Decide.{both}
 use Rattle.orders.proofs.Ordered.{or-false}
 

@@ -9,10 +9,10 @@ use lib.Dec.{eqb, leb}
 use lib.ListN.{length}
 use borrow.Author.Tests.{eqb-false, ne-eqb, lt-leb, le-leb}
 use Rattle.layers.specs.Answer.{given, refused, ofChecked}
-use Rattle.layers.specs.Check.{checkOf}
+use Rattle.layers.specs.Check.{checkOf, isGood}
 use Rattle.layers.specs.declared.answers.Checked.{Checked}
 use Rattle.layers.specs.declared.answers.Checked.the-variants.{Good, Refused}
-use Rattle.orders.specs.Order.{isGood, knownStates, allFree, takenFirst, taken, hasId, repeats, passes, allPass, inOrder}
+use Rattle.orders.specs.Order.{knownStates, allFree, takenFirst, taken, hasId, repeats, passes, allPass, inOrder}
 use Rattle.columns.specs.declared.symbol.Symbol.{Symbol}
 use Rattle.answers.specs.declared.flat.Answer.{Answer}
 use Rattle.answers.specs.Flat.{notAccepted}

@@ -12,7 +12,7 @@ use borrow.Author.Tests.{eqb-true, le-leb, le-ltb}
 use Rattle.layers.specs.Layers.{Layer, layers}
 use Rattle.layers.specs.Answer as paper
 use Rattle.layers.specs.Answer.{given, nothing, refused, next}
-use Rattle.layers.specs.Check.{badCount, badLayer, misplaced, checkOf, unless}
+use Rattle.layers.specs.Check.{badCount, badLayer, misplaced, checkOf, unless, isGood}
 use Rattle.layers.proofs.Checks.{start}
 use Rattle.forms.specs.Formed.{wellFormed}
 use Rattle.equalities.specs.Equalities.{identical}
@@ -22,7 +22,6 @@ use Rattle.coercions.specs.Coercions.{coerces}
 use Rattle.buffers.specs.Written.{written}
 use Rattle.buffers.proofs.Writing.{fits, length-written}
 use Rattle.orders.specs.Order as order
-use Rattle.orders.specs.Order.{isGood}
 use Rattle.columns.specs.declared.symbol.Symbol.{Symbol}
 use Rattle.answers.specs.Flat.{accepted}
 use Rattle.updates.specs.Updates.{lineOf, answerBy, typed, recordBy, wordsBy, storedOf, lineAt, updated, wordsAfter}

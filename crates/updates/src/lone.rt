@@ -7,8 +7,7 @@ use columns::Symbol;
 use layers::Checked;
 use layers::check_type;
 ghost use mathlib.Core.Path.{_≡_};
-ghost use Rattle.layers.specs.Check.{checkOf};
-ghost use Rattle.orders.specs.Order.{isGood};
+ghost use Rattle.layers.specs.Check.{checkOf, isGood};
 ghost use Rattle.updates.specs.Lone as rules;
 
 // Whether words pass the checks 1 to 3.

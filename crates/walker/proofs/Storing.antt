@@ -12,10 +12,10 @@ use lib.Seq.{take-all, take-nil, length-take-le, drop-drop}
 use borrow.Author.Tests.{lt-ltb, le-ltb, ltb-false, eq-eqb, ne-eqb, eqb-true}
 use Rattle.layers.specs.Layers.{layers}
 use Rattle.layers.specs.Answer.{given, refused}
-use Rattle.layers.specs.Check.{checkOf, badLayer, misplaced, unless}
+use Rattle.layers.specs.Check.{checkOf, badLayer, misplaced, unless, isGood}
 use Rattle.columns.specs.Rows.{vacant, rowAt, readFrom, typed}
 use Rattle.columns.specs.Search.{slotIn, slotFor}
-use Rattle.orders.specs.Order.{isGood, passes, allPass, inOrder}
+use Rattle.orders.specs.Order.{passes, allPass, inOrder}
 use Rattle.columns.specs.declared.symbol.Symbol.{Symbol}
 use Rattle.columns.proofs.Reading.{getD-read, length-read}
 use Rattle.columns.proofs.Searching.{slot-is}

@@ -11,12 +11,12 @@ use borrow.Author.Tests.{eq-eqb}
 use Rattle.layers.specs.Layers.{Layer, layers, outer}
 use Rattle.layers.specs.Answer as paper
 use Rattle.layers.specs.Answer.{refused, ofChecked, next}
-use Rattle.layers.specs.Check.{checkOf}
+use Rattle.layers.specs.Check.{checkOf, isGood}
 use Rattle.layers.specs.declared.answers.Checked.{Checked}
 use Rattle.layers.specs.declared.answers.Checked.the-variants.{Good, Refused}
 use Rattle.columns.specs.Rows.{readFrom}
 use Rattle.tables.specs.Gathered.{gathered}
-use Rattle.orders.specs.Order.{isGood, inOrder}
+use Rattle.orders.specs.Order.{inOrder}
 use Rattle.columns.specs.declared.symbol.Symbol.{Symbol}
 use Rattle.columns.proofs.Reading.{length-read}
 use Rattle.tables.proofs.Gathering.{swapped}

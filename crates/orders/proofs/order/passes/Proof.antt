@@ -2,7 +2,7 @@ use borrow.Author.Needs.{needs}
 use borrow.Author.Tests.{le-leb, lt-leb, eq-eqb, ne-eqb}
 use Rattle.layers.proofs.Decide.{yes, no}
 use Rattle.orders.specs.Order as order
-use Rattle.orders.proofs.Onward.{words, good-words, bad-words}
+use Rattle.orders.proofs.Onward.{words}
 use Rattle.orders.proofs.order.passes.Statement.{statement}
 use Rattle.orders.proofs.order.passes.Tie as tie
 
@@ -16,7 +16,4 @@ passes-spec =
     (λ c. search needs)
     (λ c. search (needs, words))
     (λ c κs. search needs)
-    (λ c. search needs)
-    (λ c. search needs)
-    (λ c. search (yes, eq-eqb, le-leb, good-words))
-    (λ c. search (yes, eq-eqb, le-leb, bad-words)))
+    (λ c. search (yes, eq-eqb, le-leb)))
