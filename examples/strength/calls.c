@@ -1,4 +1,4 @@
-/* The header's sections Types, Relations and Extern fixing. */
+/* The header's sections Types, Relations, Extern fixing and Sheets. */
 #include "strength.h"
 
 bool answered(tj_answer a, uint64_t most)
@@ -121,6 +121,17 @@ static bool ask_fixing(size_t which, uint64_t *refusal)
     return answered(a, room) && kept(0) && (a.refusal || kept_from(1, 8 * a.value));
 }
 
+static bool ask_sheet(size_t which, uint64_t *refusal)
+{
+    (void)which;
+    static uint8_t bytes[MOST_SHEET];
+    size_t n = some_sheet(bytes);
+    const uint8_t *sheet = lend(bytes, n);
+    tj_answer a = tj_read_sheet(sheet, n);
+    *refusal = a.refusal;
+    return answered(a, 32) && kept(0);
+}
+
 const export questions[] = {
     {"check", ask_one, 0},
     {"is_wellformed", ask_one, 1},
@@ -155,5 +166,6 @@ const export questions[] = {
     {"can_autoderef_into", ask_two, 7},
     {"can_subautoderef_into", ask_two, 8},
     {"fix_type_for_flags", ask_fixing, 0},
+    {"read_sheet", ask_sheet, 0},
 };
 const size_t question_count = sizeof questions / sizeof *questions;

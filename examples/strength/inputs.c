@@ -89,6 +89,31 @@ size_t some_words(uint64_t *t)
     return once_in(8) ? damage(t, n) : n;
 }
 
+/* A sheet's bytes: mostly whole ones of good types, some with a word changed, or of another length. */
+size_t some_sheet(uint8_t *bytes)
+{
+    static uint64_t words[1 + 32 + 32 * MOST_WORDS];
+    size_t count = 1 + below(once_in(8) ? 32 : 4), n = 1 + count;
+    words[0] = count;
+    for (size_t k = 0; k < count; k++) {
+        size_t body = good_type(words + n);
+        words[1 + k] = body / 3;
+        n += body;
+    }
+    if (once_in(8))
+        words[below(1 + count)] = some_number();
+    if (once_in(8))
+        words[below(n)] = some_number();
+    for (size_t i = 0; i < 8 * n; i++)
+        bytes[i] = (uint8_t)(words[i / 8] >> 8 * (i % 8));
+    if (!once_in(8))
+        return 8 * n;
+    size_t left = once_in(2) ? below(8 * n + 1) : 8 * n + below(17);
+    for (size_t i = 8 * n; i < left; i++)
+        bytes[i] = (uint8_t)any();
+    return left;
+}
+
 /* The other words with a layer put in front, taken off or changed, so that relations often hold. */
 size_t words_beside(uint64_t *t, const uint64_t *other, size_t n)
 {

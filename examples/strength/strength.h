@@ -14,8 +14,9 @@ size_t below(size_t limit);
 bool once_in(size_t times);
 
 /* inputs.c: what is lent. Each returns how many words it wrote, or records. */
-enum { ROOM = 64, MOST_RECORDS = 130, MOST_STEP_WORDS = 4 * 130 };
+enum { ROOM = 64, MOST_RECORDS = 130, MOST_STEP_WORDS = 4 * 130, MOST_SHEET = 12552 + 16 };
 size_t some_words(uint64_t *t);
+size_t some_sheet(uint8_t *bytes);
 size_t words_beside(uint64_t *t, const uint64_t *other, size_t n);
 size_t some_steps(uint64_t *s, size_t most);
 size_t steps_along(uint64_t *s, size_t most, const uint64_t *known, size_t n);
