@@ -10,11 +10,11 @@ use lib.ListN.{length, getD, length-take, length-drop}
 use borrow.Author.Tests.{eqb-true, not-true, not-false}
 use Rattle.kinds.specs.Kind as kind
 use Rattle.kinds.specs.Words.{words}
-use Rattle.layers.specs.Layers.{Layer, layer, layers, isReference, spelled}
+use Rattle.layers.specs.Layers.{Layer, layer, layers, isReference, spelled, head}
 use Rattle.layers.specs.Answer.{Answer, given, nothing, refused, ofChecked}
 use Rattle.layers.specs.declared.answers.Checked.{Checked}
 use Rattle.layers.specs.declared.answers.Checked.the-variants.{Good, Refused}
-use Rattle.layers.proofs.Words.{head, rest, none, more}
+use Rattle.layers.proofs.Words.{rest, none, more}
 use Rattle.buffers.specs.Written.{written}
 use Rattle.buffers.proofs.Writing.{part, put, put-back, front-last}
 use Rattle.externs.specs.Fixing.{under, kept, externalized}

@@ -45,9 +45,9 @@ pub record Passed (ws : List ℕ) (word place found : ℕ) : Type 0 where
   pub good : badLayer place (layers (drop word ws)) ≡ badLayer 0 (layers ws)
   pub first : orElse found (misplaced place (layers (drop word ws))) ≡ misplaced 0 (layers ws)
 
-pub start : (ws : List ℕ) (b : Bool) → b ≡ badCount (length ws) → b ≡ false → Passed ws 0 0 16
-start ws b f e =
-    let c = counted (eqb (length ws) 0) (ltb 48 (length ws)) (eqb (length ws % 3) 0) (sym f ∙ e) in
+pub start : (ws : List ℕ) → badCount (length ws) ≡ false → Passed ws 0 0 16
+start ws e =
+    let c = counted (eqb (length ws) 0) (ltb 48 (length ws)) (eqb (length ws % 3) 0) e in
     record {
       few = ltb-false 48 (length ws) (c .0);
       whole = eqb-true (length ws % 3) 0 (c .1);
@@ -118,17 +118,17 @@ module _ (ws : List ℕ) (word place found : ℕ) (i : Passed ws word place foun
       }
 
 -- the answers
-pub miscounted : (ws : List ℕ) (b : Bool) → b ≡ badCount (length ws) → b ≡ true → refused 1 0 ≡ checkOf ws
+pub miscounted : (ws : List ℕ) → badCount (length ws) ≡ true → refused 1 0 ≡ checkOf ws
 unfolding checkOf
-miscounted ws b f e = rw (← f, e)
+miscounted ws e = rw e
 
-module _ (ws : List ℕ) (place found : ℕ) (b : Bool) (counts : b ≡ badCount (length ws)) (c : b ≡ false) where
+module _ (ws : List ℕ) (place found : ℕ) (c : badCount (length ws) ≡ false) where
   pub bad : (word : ℕ) (good : Bool) → Passed ws word place found → word < length ws →
       good ≡ goodLayer (layerAt ws word) → not good ≡ true → refused 2 place ≡ checkOf ws
   unfolding checkOf badLayer
   bad word good i h e f =
       let step = here ws word (omega (arith, i .whole, i .count)) in
-      rw (← counts, c, ← i .good, step, ← e, not-true good f)
+      rw (c, ← i .good, step, ← e, not-true good f)
 
   module _ (word : ℕ) (i : Passed ws word place found) (h : length ws ≤ word) where
     no-bad : nowhere ≡ badLayer 0 (layers ws)
@@ -141,60 +141,10 @@ module _ (ws : List ℕ) (place found : ℕ) (b : Bool) (counts : b ≡ badCount
 
     pub leaf : (found ≡ 16 → ⊥) → refused 3 found ≡ checkOf ws
     unfolding checkOf
-    leaf n = rw (← counts, c, ← no-bad, ← left, ne-eqb found 16 n)
+    leaf n = rw (c, ← no-bad, ← left, ne-eqb found 16 n)
 
     pub fine : found ≡ 16 → given place ≡ checkOf ws
     unfolding checkOf
     fine n =
         let count : length ws / 3 ≡ place = omega (arith, i .within, i .count) in
-        rw (← counts, c, ← no-bad, ← left, eq-eqb found 16 n, count)
-
--- a misplaced layer is refused, if not for itself
-pub found-bad : (ws : List ℕ) (word place found : ℕ) → Passed ws word place found → (found ≡ 16 → ⊥) → false ≡ isGood (checkOf ws)
-unfolding checkOf
-found-bad ws word place found i n =
-    rw (← i .first, ne-eqb found 16 n) (refused-either (badCount (length ws)) (badLayer 0 (layers ws)))
-  where
-    refused-either : (b : Bool) (p : Place) → false ≡ isGood (cond b (refused 1 0) (unless p 2 (refused 3 found)))
-    refused-either true p = refl
-    refused-either false (at q) = refl
-    refused-either false nowhere = refl
-
--- what the pass knows while no layer is misplaced, by the word alone
-abbrev pub Fine : List ℕ → ℕ → Type 0
-Fine ws word = Passed ws word (word / 3) 16
-
-module _ (ws : List ℕ) (word : ℕ) (i : Fine ws word) (h : word < length ws) (good wrong : Bool) (e : good ≡ goodLayer (layerAt ws word)) where
-  pub bad-layer : (b : Bool) → b ≡ badCount (length ws) → b ≡ false → not good ≡ true → false ≡ isGood (checkOf ws)
-  bad-layer b counts c f = rw (← bad ws (word / 3) 16 b counts c word good i h e f)
-
-  module _ (f : good ≡ true)
-      (g : wrong ≡ cond (holdsInner (getD ws word 0)) (eqb (word + 3) (length ws)) (not (eqb (word + 3) (length ws)))) where
-    pub bad-place : wrong ≡ true → false ≡ isGood (checkOf ws)
-    bad-place w =
-        found-bad ws (word + 3) (word / 3 + 1) (word / 3) (turn ws word (word / 3) 16 i h good e (word / 3) wrong f g (rw w))
-        (λ z. omega (arith, i .few))
-
-    pub onward : wrong ≡ false → Fine ws (word + 3)
-    onward w =
-        let next : (word + 3) / 3 ≡ word / 3 + 1 = omega arith in
-        rw next (turn ws word (word / 3) 16 i h good e 16 wrong f g (rw w))
-
--- words that pass are as many layers as they are threes of words
-pub counted-by : (ws : List ℕ) (good : Bool) → good ≡ isGood (checkOf ws) → good ≡ true → given (length ws / 3) ≡ checkOf ws
-unfolding checkOf
-counted-by ws good f e = by-checks (badCount (length ws)) (badLayer 0 (layers ws)) (misplaced 0 (layers ws)) (sym f ∙ e)
-  where
-    by-checks : (b : Bool) (p q : Place) → isGood (cond b (refused 1 0) (unless p 2 (unless q 3 (given (length ws / 3))))) ≡ true →
-        given (length ws / 3) ≡ cond b (refused 1 0) (unless p 2 (unless q 3 (given (length ws / 3))))
-    by-checks true p q e = absurd (false≢true e)
-    by-checks false (at p) q e = absurd (false≢true e)
-    by-checks false nowhere (at q) e = absurd (false≢true e)
-    by-checks false nowhere nowhere e = refl
-
-pub all-fine : (ws : List ℕ) (word : ℕ) (b : Bool) → b ≡ badCount (length ws) → b ≡ false → Fine ws word → length ws ≤ word →
-    true ≡ isGood (checkOf ws)
-all-fine ws word b counts c i h = rw (← fine ws (word / 3) 16 b counts c word i h refl)
-
-pub not-counted : (ws : List ℕ) (b : Bool) → b ≡ badCount (length ws) → b ≡ true → false ≡ isGood (checkOf ws)
-not-counted ws b f e = rw (← miscounted ws b f e)
+        rw (c, ← no-bad, ← left, eq-eqb found 16 n, count)

@@ -6,6 +6,7 @@ pub mod Given
 pub mod Table
 pub mod Within
 pub mod Checks
+pub mod Passing
 pub mod Accepted
 pub mod Cycle
 pub mod Refusals

@@ -1,20 +1,37 @@
 use crate::answers::Checked;
+use crate::layer::good_holder;
 use crate::layer::good_layer;
+use crate::layer::good_leaf;
 use crate::layer::holds_inner;
 ghost use mathlib.Core.Path.{_≡_};
 ghost use mathlib.Core.Bool.{cond, not, _&&_};
 ghost use lib.Dec.{eqb};
 ghost use Rattle.layers.specs.Layers.{holdsInner};
 ghost use Rattle.layers.specs.Answer.{next, ofChecked};
-ghost use Rattle.layers.specs.Check.{badCount, checkOf, isGood};
+ghost use Rattle.layers.specs.Check.{checkOf, isGood};
 
 // The place of no layer: a type has at most 16, from 0.
 const NOWHERE: u64 = 16;
 
-fn is_bad_count(n: usize) -> bool
-    ensures { λ r. ⌜ r ≡ badCount n ⌝ }
+// Whether words pass the checks 1 to 3: layers that hold an inner type, and a leaf.
+pub fn is_type(ws: &[u64]) -> bool
+    ensures { λ r. ⌜ r ≡ isGood (checkOf (now (ws .entry))) ⌝ }
 {
-    (n == 0) | (n > 48) | (n % 3 != 0)
+    let n = ws.len();
+    if (n == 0) | (n > 48) {
+        return false;
+    }
+    let mut at = 0;
+    while at + 3 < n {
+        if !good_holder(ws[at], ws[at + 1], ws[at + 2]) {
+            return false;
+        }
+        at += 3;
+    }
+    if at + 3 != n {
+        return false;
+    }
+    good_leaf(ws[at], ws[at + 1], ws[at + 2])
 }
 
 // Whether a layer of this kind is a leaf early, or the last and no leaf.
@@ -22,28 +39,6 @@ fn is_misplaced(k: u64, last: bool) -> bool
     ensures { λ r. ⌜ r ≡ cond (holdsInner k) last (not last) ⌝ }
 {
     if holds_inner(k) { last } else { !last }
-}
-
-// Whether words pass the checks 1 to 3.
-pub fn is_type(ws: &[u64]) -> bool
-    ensures { λ r. ⌜ r ≡ isGood (checkOf (now (ws .entry))) ⌝ }
-{
-    let n = ws.len();
-    if is_bad_count(n) {
-        return false;
-    }
-    let mut at = 0;
-    while at < n {
-        let k = ws[at];
-        if !good_layer(k, ws[at + 1], ws[at + 2]) {
-            return false;
-        }
-        at += 3;
-        if is_misplaced(k, at == n) {
-            return false;
-        }
-    }
-    true
 }
 
 // The first misplaced layer: the one that was found before, or this one where it is misplaced.
@@ -62,7 +57,7 @@ fn first_refusal(ws: &[u64]) -> Checked
     ensures { λ r. ⌜ ofChecked r ≡ checkOf (now (ws .entry)) ⌝ }
 {
     let n = ws.len();
-    if is_bad_count(n) {
+    if (n == 0) | (n > 48) | (n % 3 != 0) {
         return Checked::Refused {
             number: 1,
             place: 0,

@@ -1,8 +1,9 @@
 use kinds::Kind;
 ghost use mathlib.Core.Path.{_≡_};
+ghost use mathlib.Core.Bool.{not, _&&_};
 ghost use Rattle.layers.specs.Layers as rules;
 ghost use Rattle.layers.specs.Layers.{layer};
-ghost use Rattle.layers.specs.Check.{goodName, goodNumber, goodLayer};
+ghost use Rattle.layers.specs.Check.{goodLayer};
 
 // The kinds that hold an inner type, by their sort.
 pub fn is_array(k: u64) -> bool
@@ -33,28 +34,36 @@ pub fn holds_inner(k: u64) -> bool
     is_array(k) | is_slice(k) | is_reference(k)
 }
 
-fn good_name(k: u64, n: u64, m: u64) -> bool
-    ensures { λ r. ⌜ r ≡ goodName (layer k n m) ⌝ }
+// Whether the three words are a layer that holds an inner type. Most have neither a name nor a number.
+pub(crate) fn good_holder(k: u64, n: u64, m: u64) -> bool
+    ensures { λ r. ⌜ r ≡ (rules.holdsInner k && goodLayer (layer k n m)) ⌝ }
 {
-    let named = (k == Kind::ARRAY_WITH_NAMED_LENGTH)
-        | (k == Kind::STRUCT)
-        | (k == Kind::WORD)
-        | ((k == Kind::UNRESOLVED_STRUCT_OR_WORD) & (m != 0));
-    (named & (n <= 4294967295)) | (n == 0)
+    if !holds_inner(k) {
+        return false;
+    }
+    if (n == 0) & (m == 0) {
+        return true;
+    }
+    ((k == Kind::ARRAY_WITH_NAMED_LENGTH) & (n <= 4294967295) & (m == 0))
+        | ((k == Kind::ARRAY) & (n == 0))
 }
 
-fn good_number(k: u64, m: u64) -> bool
-    ensures { λ r. ⌜ r ≡ goodNumber (layer k 0 m) ⌝ }
+// Whether the three words are a layer that is a leaf. The kinds below the arrays have neither a name nor a number.
+pub(crate) fn good_leaf(k: u64, n: u64, m: u64) -> bool
+    ensures { λ r. ⌜ r ≡ (not (rules.holdsInner k) && goodLayer (layer k n m)) ⌝ }
 {
-    (k == Kind::ARRAY)
-        | (k == Kind::WORD)
-        | ((k == Kind::UNRESOLVED_STRUCT_OR_WORD) & (m == 1))
-        | (m == 0)
+    if k < Kind::ARRAY {
+        return (n == 0) & (m == 0);
+    }
+    let unresolved = k == Kind::UNRESOLVED_STRUCT_OR_WORD;
+    ((((k == Kind::STRUCT) & (m == 0)) | (k == Kind::WORD) | (unresolved & (m == 1)))
+        & (n <= 4294967295))
+        | (unresolved & (n == 0) & (m == 0))
 }
 
 // Whether the three words are a layer.
 pub(crate) fn good_layer(k: u64, n: u64, m: u64) -> bool
     ensures { λ r. ⌜ r ≡ goodLayer (layer k n m) ⌝ }
 {
-    (k < 25) & good_name(k, n, m) & good_number(k, m)
+    good_holder(k, n, m) | good_leaf(k, n, m)
 }

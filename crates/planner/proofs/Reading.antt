@@ -9,8 +9,8 @@ use lib.Dec.{eqb}
 use lib.ListN.{length, getD, take, drop, length-drop, drop-of-length-le, List·getD-eq-default}
 use lib.Seq.{take-all, drop-length}
 use borrow.Author.Tests.{eq-eqb, ne-eqb}
-use Rattle.layers.specs.Layers.{layers}
-use Rattle.layers.proofs.Words.{none, more, head, rest}
+use Rattle.layers.specs.Layers.{layers, head}
+use Rattle.layers.proofs.Words.{none, more, rest}
 use Rattle.layers.proofs.Accepted.{Whole}
 use Rattle.forms.specs.Formed.{wellFormed}
 use Rattle.turns.specs.declared.turn.Turn.{Turn}

@@ -1,5 +1,5 @@
 use borrow.Author.Needs.{needs}
-use Rattle.layers.proofs.Checks.{counted-by}
+use Rattle.layers.proofs.Passing.{counted-by}
 use Rattle.layers.proofs.check.check_type.Statement.{statement}
 use Rattle.layers.proofs.check.check_type.Tie as tie
 

@@ -25,7 +25,6 @@ first-refusal-spec =
     (tie.spec
     Inv-loop
     μ-loop
-    (λ c κs. search needs)
     (λ c. search miscounted)
     (λ c. search start)
     (λ c. search needs)

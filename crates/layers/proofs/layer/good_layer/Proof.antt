@@ -1,5 +1,5 @@
 use borrow.Author.Needs.{needs}
-use Rattle.layers.proofs.Within.{layer-within}
+use Rattle.layers.proofs.Within.{either-good}
 use Rattle.layers.proofs.layer.good_layer.Statement.{statement}
 use Rattle.layers.proofs.layer.good_layer.Tie as tie
 
@@ -9,4 +9,4 @@ good-layer-spec =
     (tie.spec
     (λ c κs. search needs)
     (λ c κs. search needs)
-    (λ c. search layer-within))
+    (λ c. search either-good))
