@@ -52,7 +52,7 @@ fn in_slot(slot: usize, u: Updated) -> Change
 
 // The change of a table that is given by its columns. The store's part is lent on, and written there.
 pub fn choose(
-    flat: [u64; 768],
+    flat: &[u64; 768],
     n: usize,
     store: &mut [u64],
     operation: Operation,
@@ -62,15 +62,15 @@ pub fn choose(
     mark: u64,
     offered: &[u64],
 ) -> Change
-    ensures { λ r. ⌜ (r ≡ rules.changeOf operation id authority place mark (now (offered .entry)) (readFrom flat 0 n) (now (store .entry)))
-        × (now (store .exit) ≡ rules.storeOf operation id authority place mark (now (offered .entry)) (readFrom flat 0 n) (now (store .entry))) ⌝ }
+    ensures { λ r. ⌜ (r ≡ rules.changeOf operation id authority place mark (now (offered .entry)) (readFrom (now (flat .entry)) 0 n) (now (store .entry)))
+        × (now (store .exit) ≡ rules.storeOf operation id authority place mark (now (offered .entry)) (readFrom (now (flat .entry)) 0 n) (now (store .entry))) ⌝ }
 {
-    match way_of(operation, &flat, n, store, id, offered) {
+    match way_of(operation, flat, n, store, id, offered) {
         Way::Refused { number, place: at } => nowhere(n, refused(number, at)),
         Way::Kept => nowhere(n, accepted(0)),
         Way::Found(at) => {
             let from = at * 48;
-            let s = row(&flat, at, id);
+            let s = row(flat, at, id);
             let u = overwrite(
                 operation,
                 s,
