@@ -38,15 +38,26 @@ fn nowhere(n: usize, answer: Answer) -> Change
     }
 }
 
-fn in_slot(slot: usize, u: Updated) -> Change
-    ensures { λ r. ⌜ r ≡ rules.inSlot slot u ⌝ }
+fn is_changed(a: Answer) -> bool
+    ensures { λ r. ⌜ r ≡ rules.isChanged a ⌝ }
+{
+    (a.refusal == 0) & (a.value != 0)
+}
+
+// What became of the record that was found.
+fn if_changed(n: usize, slot: usize, u: Updated) -> Change
+    ensures { λ r. ⌜ r ≡ rules.ifChanged n slot u ⌝ }
 {
     let symbol = u.symbol;
     let answer = u.answer;
-    Change {
-        slot,
-        symbol,
-        answer,
+    if is_changed(answer) {
+        Change {
+            slot,
+            symbol,
+            answer,
+        }
+    } else {
+        nowhere(n, answer)
     }
 }
 
@@ -81,7 +92,7 @@ pub fn choose(
                 mark,
                 offered,
             );
-            in_slot(at, u)
+            if_changed(n, at, u)
         }
         Way::Free(at) => {
             let from = at * 48;
