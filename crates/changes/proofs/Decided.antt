@@ -1,7 +1,7 @@
 -- What is done to the record of a slot that was chosen, as the core meets it: in a table that is read out of columns.
 -- Assumes nothing.
 use mathlib.Core.Path.{_≡_, sym, ap, subst, _∙_}
-use mathlib.Core.Bool.{Bool}
+use mathlib.Core.Bool.{Bool, true, false}
 use mathlib.Core.List.{List, [], _++_, append-nil}
 use Prim.Native.Nat.{ℕ, _-_, _*_, _≤_, _<_}
 use native.Mathlib.Omega.{arith}
@@ -21,8 +21,16 @@ use Rattle.ways.specs.declared.slot.Way.the-variants as way
 use Rattle.ways.specs.Ways.{wayOf}
 use Rattle.ways.proofs.Decided.{Within, found-in, found-has, new-in}
 use Rattle.slots.specs.Deeds.{filled, filledWords, overwrites, seen}
-use Rattle.changes.specs.Changes.{outcomeBy, nowhere, inSlot, changeOf, storeOf}
+use Rattle.changes.specs.Changes.{outcomeBy, nowhere, isChanged, inSlot, ifChanged, changeOf, storeOf}
 use Rattle.changes.specs.declared.change.Change.{Change}
+
+-- a record that was found
+module _ (n k : ℕ) (u : Updated) (t : Bool) (e : t ≡ isChanged (u .answer)) where
+  pub is-stored : t ≡ true → inSlot k u ≡ ifChanged n k u
+  is-stored h = rw (← e, h)
+
+  pub is-kept : (r : Change) → t ≡ false → r ≡ nowhere n (u .answer) → r ≡ ifChanged n k u
+  is-kept r h q = rw (← e, h) q
 
 module _ (op : Operation) (id : ℕ) (authority : Bool) (place mark : ℕ) (offered flat : List ℕ) (n : ℕ) (store : List ℕ) (w : Way)
     (e : w ≡ wayOf op id offered (readFrom flat 0 n) store) where
@@ -89,9 +97,9 @@ module _ (op : Operation) (id : ℕ) (authority : Bool) (place mark : ℕ) (offe
 
       module _ (s : Symbol) (u : Updated) (after : List ℕ) (q : s ≡ rowUnder flat k id)
           (d : u ≡ seen (overwrites op s (tail k) id authority place mark offered)) where
-        pub chose-found : (r : Change) → r ≡ inSlot k u → r ≡ changeOf op id authority place mark offered table store
+        pub chose-found : (r : Change) → r ≡ ifChanged n k u → r ≡ changeOf op id authority place mark offered table store
         unfolding changeOf
-        chose-found r i = i ∙ (rw (← e, h, d, tail-is k, row-is s q))
+        chose-found r i = i ∙ (rw (← e, h, d, tail-is k, row-is s q, length-read flat 0 n))
 
         pub kept-found : after ≡ overwrites op s (tail k) id authority place mark offered .words →
             take (k * 48) store ++ (after ++ drop (length store - k * 48) (drop (k * 48) store))

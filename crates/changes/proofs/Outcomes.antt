@@ -1,29 +1,57 @@
 -- The change that the core hands back is the outcome: its answer, the store, and the table with the record in its slot.
 -- Assumes nothing.
-use mathlib.Core.Path.{_≡_, refl, ap, subst, _∙_}
-use mathlib.Core.Bool.{Bool, not}
-use mathlib.Core.List.{List}
-use Prim.Native.Nat.{ℕ}
+use mathlib.Core.Path.{_≡_, refl, sym, ap, subst, _∙_}
+use mathlib.Core.Bool.{Bool, true, false, cond, not, true≢false}
+use mathlib.Core.List.{List, [], _∷_}
+use Prim.Native.Nat.{ℕ, zero, suc, _*_}
 use native.Mathlib.Omega.{arith}
-use lib.Dec.{T, leb, leb→le, nleb→lt}
-use lib.ListN.{length, set}
+use lib.Dec.{T, eqb, leb, leb→le, nleb→lt}
+use lib.ListN.{length, drop, getD, set}
+use borrow.Author.Tests.{eqb-true}
 use Rattle.columns.specs.declared.symbol.Symbol.{Symbol}
+use Rattle.columns.specs.Rows.{vacant}
+use Rattle.answers.specs.declared.flat.Answer.{Answer}
+use Rattle.updates.specs.Updates.{updated}
+use Rattle.updates.proofs.Theorems.{unchanged}
 use Rattle.ways.specs.declared.operations.Operation.{Operation}
+use Rattle.ways.specs.declared.operations.Operation.the-variants as operation
 use Rattle.ways.specs.declared.slot.Way.{Way}
 use Rattle.ways.specs.declared.slot.Way.the-variants as way
 use Rattle.ways.specs.Ways.{wayOf}
 use Rattle.ways.proofs.Decided.{found-in, new-in}
-use Rattle.changes.specs.Changes.{outcomeBy, outcome, changeBy, changeOf, storeOf}
+use Rattle.slots.specs.Deeds.{Deed, overwrites, seen}
+use Rattle.changes.specs.Changes.{outcomeBy, outcome, nowhere, inSlot, isChanged, changeBy, changeOf, storeOf}
 use Rattle.changes.specs.declared.change.Change.{Change}
+
+-- a list with one of its elements put in its place
+set-same : {A : Type 0} (l : List A) (i : ℕ) (d : A) → set l i (getD l i d) ≡ l
+set-same [] i d = refl
+set-same (x ∷ xs) zero d = refl
+set-same (x ∷ xs) (suc i) d = ap (λ (ys : List _). x ∷ ys) (set-same xs i d)
+
+-- an answer that tells of no change
+not-changed : (a : Answer) → isChanged a ≡ false → a .refusal ≡ 0 → a .value ≡ 0
+not-changed a e h = by-value (eqb (a .value) 0) refl (rw h at e)
+  where
+    by-value : (t : Bool) → eqb (a .value) 0 ≡ t → not t ≡ false → a .value ≡ 0
+    by-value true f g = eqb-true (a .value) 0 f
+    by-value false f g = absurd (true≢false g)
 
 module _ (op : Operation) (id : ℕ) (authority : Bool) (place mark : ℕ) (offered : List ℕ) (table : List Symbol) (store : List ℕ) where
   abbrev by : Way → Change
   by w = changeBy w op id authority place mark offered table store
 
+  abbrev done : ℕ → Deed
+  done k = overwrites op (getD table k vacant) (drop (k * 48) store) id authority place mark offered
+
   answer-by : (w : Way) → by w .answer ≡ outcomeBy w op id authority place mark offered table store .answer
   answer-by (way.Refused n p) = refl
   answer-by way.Kept = refl
-  answer-by (way.Found k) = refl
+  answer-by (way.Found k) = by-test (isChanged (done k .answer))
+    where
+      by-test : (t : Bool) → cond t (inSlot k (seen (done k))) (nowhere (length table) (done k .answer)) .answer ≡ done k .answer
+      by-test true = refl
+      by-test false = refl
   answer-by (way.Free k) = refl
 
   pub answer-is : (r : Change) → r ≡ changeOf op id authority place mark offered table store →
@@ -35,12 +63,28 @@ module _ (op : Operation) (id : ℕ) (authority : Bool) (place mark : ℕ) (offe
   unfolding storeOf outcome
   store-is = refl
 
+  -- where nothing changed, the record is what it was
+  same-record : (o : Operation) (s : Symbol) (ws : List ℕ) → isChanged (overwrites o s ws id authority place mark offered .answer) ≡ false →
+      overwrites o s ws id authority place mark offered .symbol ≡ s
+  same-record operation.PutNothing s ws e = refl
+  same-record operation.PutPoison s ws e = absurd (true≢false e)
+  same-record operation.PutType s ws e =
+      unchanged s ws id authority place offered (not-changed (updated s ws id authority place offered .answer) e) .0
+  same-record operation.ForwardPoison s ws e = absurd (true≢false e)
+  same-record operation.ForwardType s ws e = absurd (true≢false e)
+
   inside-or : (w : Way) → wayOf op id offered table store ≡ w → T (leb (length table) (by w .slot)) →
       table ≡ outcomeBy w op id authority place mark offered table store .table
   inside-or (way.Refused n p) e out = refl
   inside-or way.Kept e out = refl
-  inside-or (way.Found k) e out =
-      absurd (omega (arith, leb→le (length table) k out, found-in op id offered table store k e .below))
+  inside-or (way.Found k) e out = by-test (isChanged (done k .answer)) refl out
+    where
+      by-test : (t : Bool) → isChanged (done k .answer) ≡ t →
+          T (leb (length table) (cond t (inSlot k (seen (done k))) (nowhere (length table) (done k .answer)) .slot)) →
+          table ≡ set table k (done k .symbol)
+      by-test true f g = absurd (omega (arith, leb→le (length table) k g, found-in op id offered table store k e .below))
+      by-test false f g =
+          sym (ap (set table k) (same-record op (getD table k vacant) (drop (k * 48) store) f) ∙ set-same table k vacant)
   inside-or (way.Free k) e out =
       absurd (omega (arith, leb→le (length table) k out, new-in op id offered table store k e .below))
 
@@ -54,7 +98,13 @@ module _ (op : Operation) (id : ℕ) (authority : Bool) (place mark : ℕ) (offe
       set table (by w .slot) (by w .symbol) ≡ outcomeBy w op id authority place mark offered table store .table
   set-by (way.Refused n p) inside = absurd (omega (arith, nleb→lt (length table) (length table) inside))
   set-by way.Kept inside = absurd (omega (arith, nleb→lt (length table) (length table) inside))
-  set-by (way.Found k) inside = refl
+  set-by (way.Found k) inside = by-test (isChanged (done k .answer)) inside
+    where
+      by-test : (t : Bool) → T (not (leb (length table) (cond t (inSlot k (seen (done k))) (nowhere (length table) (done k .answer)) .slot))) →
+          set table (cond t (inSlot k (seen (done k))) (nowhere (length table) (done k .answer)) .slot)
+          (cond t (inSlot k (seen (done k))) (nowhere (length table) (done k .answer)) .symbol) ≡ set table k (done k .symbol)
+      by-test true f = refl
+      by-test false f = absurd (omega (arith, nleb→lt (length table) (length table) f))
   set-by (way.Free k) inside = refl
 
   pub table-set : (r : Change) → r ≡ changeOf op id authority place mark offered table store → T (not (leb (length table) (r .slot))) →

@@ -9,6 +9,6 @@ use borrow.Fn.Kinds.{Dens, resT, endedOf}
 use Rattle.changes.proofs.change.choose.Kinds.{ps, r}
 use Rattle.changes.proofs.change.choose.Reads.{Post}
 
-pub choose-single : (κs : Lfts 2) (a : Dens κs ps) (x y : resT r κs .Denot) (s t : AtExit (endedOf 2 ps r) κs) →
+pub choose-single : (κs : Lfts 3) (a : Dens κs ps) (x y : resT r κs .Denot) (s t : AtExit (endedOf 3 ps r) κs) →
     Post κs a x s → Post κs a y t → (x ≡ y) × (now (s .1 .1 .0) ≡ now (t .1 .1 .0))
 choose-single κs a x y s t p q = (p .0 ∙ sym (q .0), p .1 ∙ sym (q .1))

@@ -1,7 +1,8 @@
 -- Put, poison and forward declaration: what each does to a table and its store.
-use mathlib.Core.Bool.{Bool}
+use mathlib.Core.Bool.{Bool, cond, not, _&&_}
 use mathlib.Core.List.{List, _++_}
 use Prim.Native.Nat.{ℕ, _*_}
+use lib.Dec.{eqb}
 use lib.ListN.{length, take, drop, getD, set}
 use Rattle.columns.specs.declared.symbol.Symbol.{Symbol}
 use Rattle.columns.specs.Rows.{vacant}
@@ -54,11 +55,19 @@ nowhere n a = record { slot = n; symbol = vacant; answer = a }
 abbrev pub inSlot : ℕ → Updated → Change
 inSlot k u = record { slot = k; symbol = u .symbol; answer = u .answer }
 
+-- An answer of a record that was found tells whether it changed: not by a refusal, and not with value 0.
+abbrev pub isChanged : Answer → Bool
+isChanged a = eqb (a .refusal) 0 && not (eqb (a .value) 0)
+
+-- Where nothing changes nothing is stored.
+abbrev pub ifChanged : ℕ → ℕ → Updated → Change
+ifChanged n k u = cond (isChanged (u .answer)) (inSlot k u) (nowhere n (u .answer))
+
 abbrev pub changeBy : Way → Operation → ℕ → Bool → ℕ → ℕ → List ℕ → List Symbol → List ℕ → Change
 changeBy (way.Refused n p) op id authority place mark offered table store = nowhere (length table) (notAccepted n p)
 changeBy way.Kept op id authority place mark offered table store = nowhere (length table) (accepted 0)
 changeBy (way.Found k) op id authority place mark offered table store =
-    inSlot k (seen (overwrites op (getD table k vacant) (drop (k * 48) store) id authority place mark offered))
+    ifChanged (length table) k (seen (overwrites op (getD table k vacant) (drop (k * 48) store) id authority place mark offered))
 changeBy (way.Free k) op id authority place mark offered table store =
     inSlot k (seen (inserts op (drop (k * 48) store) id authority place mark offered))
 

@@ -38,21 +38,32 @@ fn nowhere(n: usize, answer: Answer) -> Change
     }
 }
 
-fn in_slot(slot: usize, u: Updated) -> Change
-    ensures { λ r. ⌜ r ≡ rules.inSlot slot u ⌝ }
+fn is_changed(a: Answer) -> bool
+    ensures { λ r. ⌜ r ≡ rules.isChanged a ⌝ }
+{
+    (a.refusal == 0) & (a.value != 0)
+}
+
+// What became of the record that was found.
+fn if_changed(n: usize, slot: usize, u: Updated) -> Change
+    ensures { λ r. ⌜ r ≡ rules.ifChanged n slot u ⌝ }
 {
     let symbol = u.symbol;
     let answer = u.answer;
-    Change {
-        slot,
-        symbol,
-        answer,
+    if is_changed(answer) {
+        Change {
+            slot,
+            symbol,
+            answer,
+        }
+    } else {
+        nowhere(n, answer)
     }
 }
 
 // The change of a table that is given by its columns. The store's part is lent on, and written there.
 pub fn choose(
-    flat: [u64; 768],
+    flat: &[u64; 768],
     n: usize,
     store: &mut [u64],
     operation: Operation,
@@ -62,15 +73,15 @@ pub fn choose(
     mark: u64,
     offered: &[u64],
 ) -> Change
-    ensures { λ r. ⌜ (r ≡ rules.changeOf operation id authority place mark (now (offered .entry)) (readFrom flat 0 n) (now (store .entry)))
-        × (now (store .exit) ≡ rules.storeOf operation id authority place mark (now (offered .entry)) (readFrom flat 0 n) (now (store .entry))) ⌝ }
+    ensures { λ r. ⌜ (r ≡ rules.changeOf operation id authority place mark (now (offered .entry)) (readFrom (now (flat .entry)) 0 n) (now (store .entry)))
+        × (now (store .exit) ≡ rules.storeOf operation id authority place mark (now (offered .entry)) (readFrom (now (flat .entry)) 0 n) (now (store .entry))) ⌝ }
 {
-    match way_of(operation, &flat, n, store, id, offered) {
+    match way_of(operation, flat, n, store, id, offered) {
         Way::Refused { number, place: at } => nowhere(n, refused(number, at)),
         Way::Kept => nowhere(n, accepted(0)),
         Way::Found(at) => {
             let from = at * 48;
-            let s = row(&flat, at, id);
+            let s = row(flat, at, id);
             let u = overwrite(
                 operation,
                 s,
@@ -81,7 +92,7 @@ pub fn choose(
                 mark,
                 offered,
             );
-            in_slot(at, u)
+            if_changed(n, at, u)
         }
         Way::Free(at) => {
             let from = at * 48;

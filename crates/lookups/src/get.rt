@@ -64,17 +64,17 @@ fn tell(got: Got, found: &mut u64) -> Answer
 
 // What a table that is given by its columns has under a name.
 pub fn get_among(
-    flat: [u64; 768],
+    flat: &[u64; 768],
     n: usize,
     store: &[u64],
     id: u32,
     authority: bool,
     found: &mut u64,
 ) -> Answer
-    ensures { λ r. ⌜ (r ≡ rules.told (rules.got id authority (readFrom flat 0 n) (now (store .entry))))
-        × (now (found .exit) ≡ rules.foundAfter (rules.got id authority (readFrom flat 0 n) (now (store .entry))) (now (found .entry))) ⌝ }
+    ensures { λ r. ⌜ (r ≡ rules.told (rules.got id authority (readFrom (now (flat .entry)) 0 n) (now (store .entry))))
+        × (now (found .exit) ≡ rules.foundAfter (rules.got id authority (readFrom (now (flat .entry)) 0 n) (now (store .entry))) (now (found .entry))) ⌝ }
 {
-    let got = look(&flat, n, store, id, authority);
+    let got = look(flat, n, store, id, authority);
     tell(got, found)
 }
 
@@ -94,13 +94,13 @@ pub fn stored_type(store: &[u64], slot: usize, layers: u64) -> &[u64]
 }
 
 // The type that it has under a name, as the part of the store that holds it.
-pub fn type_among(flat: [u64; 768], n: usize, store: &[u64], id: u32) -> &[u64]
-    ensures { λ r. ⌜ now r ≡ rules.typeOf id (readFrom flat 0 n) (now (store .entry)) ⌝ }
+pub fn type_among<'a>(flat: &[u64; 768], n: usize, store: &'a [u64], id: u32) -> &'a [u64]
+    ensures { λ r. ⌜ now r ≡ rules.typeOf id (readFrom (now (flat .entry)) 0 n) (now (store .entry)) ⌝ }
 {
-    match look(&flat, n, store, id, true) {
+    match look(flat, n, store, id, true) {
         Got::Absent => &store[..0],
         Got::Typed(at) => {
-            let s = row(&flat, at, id);
+            let s = row(flat, at, id);
             stored_type(store, at, s.layers)
         }
         Got::Poisoned(_) => &store[..0],

@@ -1,6 +1,6 @@
 -- The answer to a question, by what its checks said.
 -- Assumes nothing.
-use mathlib.Core.Path.{_≡_, refl, sym, _∙_}
+use mathlib.Core.Path.{_≡_, refl, sym, ap, _∙_}
 use mathlib.Core.Bool.{Bool, true, false, cond, not}
 use mathlib.Core.List.{List}
 use Prim.Native.Nat.{ℕ, _/_, _≤_, _<_}
@@ -26,7 +26,8 @@ use Rattle.steps.specs.Steps.{stepsAnswer}
 use Rattle.walker.specs.Members.{memberIn, ofLayers, members}
 use Rattle.walker.proofs.Storing.{at-most, member-whole}
 use Rattle.planner.specs.Plan.{Plan, planOf}
-use Rattle.planner.specs.Report.{delivered, notGiven}
+use Rattle.planner.specs.Report.{delivered, notGiven, told, stepsOver, typeOver}
+use Rattle.planner.specs.declared.report.Report.{Report}
 use Rattle.planner.specs.Finish.{AllWhole, walked}
 use Rattle.planner.specs.Answers.{limits, question, planned, planAnswer}
 use Rattle.planner.proofs.Delivering.{Told, refuses}
@@ -108,16 +109,44 @@ module _ (known asked target : List ℕ) (rounds : ℕ) (x : Checked) (i : ℕ) 
       by-limit true p q = absurd (not-given 5 0 i q)
       by-limit false p q = ltb-false 64 rounds p
 
--- a question that did not
+-- the answer to a question, by what its checks said
 module _ (table : List Symbol) (store known asked target : List ℕ) (level rounds : ℕ) (s t : List ℕ) (x : Checked) (e : ofChecked x ≡ question known asked target rounds) where
-  pub question-refused : (n p : ℕ) → x ≡ Refused n p → Told (planAnswer table store known asked target level rounds (length s) (length t)) (notGiven n p) s s t t
-  unfolding planAnswer
-  question-refused n p h = refuses _ n p s t (rw (← e, h) refl)
+  abbrev whole : Answer Plan
+  whole = planAnswer table store known asked target level rounds (length s) (length t)
 
-  pub question-passed : (i : ℕ) → x ≡ Good i →
-      planned table store known asked target level rounds (length s) (length t) ≡ planAnswer table store known asked target level rounds (length s) (length t)
-  unfolding planAnswer
-  question-passed i h = rw (← e, h) refl
+  module _ (n p : ℕ) (h : x ≡ Refused n p) where
+    question-refused : whole ≡ refused n p
+    unfolding planAnswer
+    question-refused = rw (← e, h) refl
+
+    pub answer-refused : (r : Report) → r ≡ notGiven n p → r ≡ told whole
+    unfolding told
+    answer-refused r i = rw question-refused i
+
+    pub steps-refused : s ≡ stepsOver whole s
+    unfolding stepsOver
+    steps-refused = rw question-refused refl
+
+    pub type-refused : t ≡ typeOver whole t
+    unfolding typeOver
+    type-refused = rw question-refused refl
+
+  module _ (i : ℕ) (h : x ≡ Good i) where
+    abbrev rest : Answer Plan
+    rest = planned table store known asked target level rounds (length s) (length t)
+
+    question-passed : rest ≡ whole
+    unfolding planAnswer
+    question-passed = rw (← e, h) refl
+
+    pub answer-passed : (r : Report) → r ≡ told rest → r ≡ told whole
+    answer-passed r q = q ∙ ap told question-passed
+
+    pub steps-passed : (after : List ℕ) → after ≡ stepsOver rest s → after ≡ stepsOver whole s
+    steps-passed after q = q ∙ ap (λ (a : Answer Plan). stepsOver a s) question-passed
+
+    pub type-passed : (after : List ℕ) → after ≡ typeOver rest t → after ≡ typeOver whole t
+    type-passed after q = q ∙ ap (λ (a : Answer Plan). typeOver a t) question-passed
 
 -- from the columns to the table
 module _ (store known asked target : List ℕ) (level rounds room wide : ℕ) (table : List Symbol) where

@@ -25,7 +25,7 @@ use Rattle.planner.proofs.plan.plan_among.Kinds.{ps, r}
 use Rattle.planner.proofs.plan.plan_among.Reads.{Post}
 use Rattle.planner.proofs.entry.autoderef as autoderef
 
-pub plan-among-single : (κs : Lfts 4) (a : Dens κs ps) (x y : resT r κs .Denot) (s t : AtExit (endedOf 4 ps r) κs) → Post κs a x s → Post κs a y t →
+pub plan-among-single : (κs : Lfts 5) (a : Dens κs ps) (x y : resT r κs .Denot) (s t : AtExit (endedOf 5 ps r) κs) → Post κs a x s → Post κs a y t →
     (x ≡ y) × (now (s .1 .1 .1 .1 .1 .1 .1 .1 .0) ≡ now (t .1 .1 .1 .1 .1 .1 .1 .1 .0)) × (now (s .1 .1 .1 .1 .1 .1 .1 .1 .1 .0) ≡ now (t .1 .1 .1 .1 .1 .1 .1 .1 .1 .0))
 plan-among-single κs a x y s t p q = (p .0 ∙ sym (q .0), p .1 .0 ∙ sym (q .1 .0), p .1 .1 ∙ sym (q .1 .1))
 

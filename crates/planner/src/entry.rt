@@ -23,9 +23,10 @@ pub fn autoderef<'a>(
         × (now (steps .exit) ≡ report.stepsOver (answers.planAnswer (now (table .entry)) (now (store .entry)) (now (known .entry)) (now (asked .entry)) (now (target .entry)) level rounds (length (now (steps .entry))) (length (now (ty .entry)))) (now (steps .entry)))
         × (now (ty .exit) ≡ report.typeOver (answers.planAnswer (now (table .entry)) (now (store .entry)) (now (known .entry)) (now (asked .entry)) (now (target .entry)) level rounds (length (now (steps .entry))) (length (now (ty .entry)))) (now (ty .entry))) ⌝ }
 {
-    let columns = gather(table);
+    let mut columns = [0u64; 768];
+    gather(table, &mut columns);
     plan_among(
-        columns,
+        &columns,
         table.len(),
         store,
         known,

@@ -90,7 +90,7 @@ fn plan_checked<'a>(
 
 // The plan of a question about a table that is given by its columns, as gather makes them.
 pub fn plan_among<'a>(
-    flat: [u64; 768],
+    flat: &[u64; 768],
     count: usize,
     store: &'a [u64],
     known: &'a [u64],
@@ -101,14 +101,14 @@ pub fn plan_among<'a>(
     steps: &mut [u64],
     ty: &mut [u64],
 ) -> Report
-    ensures answer { λ r. ⌜ r ≡ report.told (answers.planAnswer (readFrom flat 0 count) (now (store .entry)) (now (known .entry)) (now (asked .entry)) (now (target .entry)) level rounds (length (now (steps .entry))) (length (now (ty .entry)))) ⌝ }
-    ensures written { λ _. ⌜ now (steps .exit) ≡ report.stepsOver (answers.planAnswer (readFrom flat 0 count) (now (store .entry)) (now (known .entry)) (now (asked .entry)) (now (target .entry)) level rounds (length (now (steps .entry))) (length (now (ty .entry)))) (now (steps .entry)) ⌝ }
-    ensures reported { λ _. ⌜ now (ty .exit) ≡ report.typeOver (answers.planAnswer (readFrom flat 0 count) (now (store .entry)) (now (known .entry)) (now (asked .entry)) (now (target .entry)) level rounds (length (now (steps .entry))) (length (now (ty .entry)))) (now (ty .entry)) ⌝ }
+    ensures answer { λ r. ⌜ r ≡ report.told (answers.planAnswer (readFrom (now (flat .entry)) 0 count) (now (store .entry)) (now (known .entry)) (now (asked .entry)) (now (target .entry)) level rounds (length (now (steps .entry))) (length (now (ty .entry)))) ⌝ }
+    ensures written { λ _. ⌜ now (steps .exit) ≡ report.stepsOver (answers.planAnswer (readFrom (now (flat .entry)) 0 count) (now (store .entry)) (now (known .entry)) (now (asked .entry)) (now (target .entry)) level rounds (length (now (steps .entry))) (length (now (ty .entry)))) (now (steps .entry)) ⌝ }
+    ensures reported { λ _. ⌜ now (ty .exit) ≡ report.typeOver (answers.planAnswer (readFrom (now (flat .entry)) 0 count) (now (store .entry)) (now (known .entry)) (now (asked .entry)) (now (target .entry)) level rounds (length (now (steps .entry))) (length (now (ty .entry)))) (now (ty .entry)) ⌝ }
 {
     match check_question(known, asked, target, rounds) {
         Checked::Refused { number, place } => refuse(number, place),
         Checked::Good(_) => plan_checked(
-            &flat,
+            flat,
             count,
             store,
             known,

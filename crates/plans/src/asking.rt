@@ -48,8 +48,9 @@ pub(crate) fn ordinary(level: u8, rounds: u64) -> Numbers {
 }
 
 fn planned(n: Numbers, all: &[u64], asked: &[u64], steps: &mut [u64], ty: &mut [u64]) -> Report {
+    let flat = columns();
     plan_among(
-        columns(),
+        &flat,
         n.records,
         part(all, 0, KNOWN),
         part(all, KNOWN, n.known),

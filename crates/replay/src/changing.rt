@@ -105,8 +105,9 @@ fn operation(f: u64) -> Operation {
 }
 
 fn change(f: u64, table: &[u64], store: &mut [u64], name: Name, offered: &[u64]) -> Change {
+    let flat = columns(table);
     choose(
-        columns(table),
+        &flat,
         records(table),
         store,
         operation(f),
@@ -158,8 +159,9 @@ fn gets(table: &[u64], numbers: &[u64], found: &[u64], e: Expected) -> bool {
     let ws = store(table);
     let name = named(numbers);
     let mut place = BEFORE;
+    let flat = columns(table);
     let a = get_among(
-        columns(table),
+        &flat,
         records(table),
         first(&ws, name.words),
         name.id,

@@ -45,8 +45,9 @@ fn planned(
     steps: &mut [u64],
     ty: &mut [u64],
 ) -> Report {
+    let flat = columns(table);
     plan_among(
-        columns(table),
+        &flat,
         records(table),
         first(all, word(numbers, 4) as usize),
         first(from(all, KNOWN), n.known),
@@ -146,8 +147,9 @@ fn walked(
     steps: &[u64],
     out: &mut [u64],
 ) -> Answer {
+    let flat = columns(table);
     walk_among(
-        columns(table),
+        &flat,
         records(table),
         first(from(all, KNOWN), known),
         steps,

@@ -22,9 +22,10 @@ pub fn change_symbol(
         × (now (table .exit) ≡ rules.outcome operation id authority place mark (now (offered .entry)) (now (table .entry)) (now (store .entry)) .table)
         × (now (store .exit) ≡ rules.outcome operation id authority place mark (now (offered .entry)) (now (table .entry)) (now (store .entry)) .store) ⌝ }
 {
-    let flat = gather(table);
+    let mut flat = [0u64; 768];
+    gather(table, &mut flat);
     let c = choose(
-        flat,
+        &flat,
         table.len(),
         store,
         operation,

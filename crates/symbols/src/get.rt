@@ -17,14 +17,16 @@ pub fn get_symbol(
     ensures { λ r. ⌜ (r ≡ rules.told (rules.got id authority (now (table .entry)) (now (store .entry))))
         × (now (found .exit) ≡ rules.foundAfter (rules.got id authority (now (table .entry)) (now (store .entry))) (now (found .entry))) ⌝ }
 {
-    let flat = gather(table);
-    get_among(flat, table.len(), store, id, authority, found)
+    let mut flat = [0u64; 768];
+    gather(table, &mut flat);
+    get_among(&flat, table.len(), store, id, authority, found)
 }
 
 // The type that a lent table has under a name, as the part of the store that holds it.
 pub fn get_type<'a>(table: &[Symbol], store: &'a [u64], id: u32) -> &'a [u64]
     ensures { λ r. ⌜ now r ≡ rules.typeOf id (now (table .entry)) (now (store .entry)) ⌝ }
 {
-    let flat = gather(table);
-    type_among(flat, table.len(), store, id)
+    let mut flat = [0u64; 768];
+    gather(table, &mut flat);
+    type_among(&flat, table.len(), store, id)
 }

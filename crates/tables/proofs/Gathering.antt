@@ -16,32 +16,33 @@ use Rattle.columns.specs.Rows.{vacant, bit, sixSet, putRow, rowAt, readFrom}
 use Rattle.columns.specs.Search.{slotFor, slotIn}
 use Rattle.columns.specs.declared.symbol.Symbol.{Symbol}
 use Rattle.columns.proofs.Reading.{length-read}
-use Rattle.tables.specs.Gathered.{rowsOf, gathered, slotOf}
+use Rattle.tables.specs.Gathered.{rowsInto, gatheredInto, gathered, slotOf}
 
 -- a record more in its columns
-pub rows-start : (table : List Symbol) → rowsOf table 0 ≡ replicate 768 0
-unfolding rowsOf
-rows-start table = refl
+module _ (ws : List ℕ) (table : List Symbol) where
+  pub rows-start : rowsInto ws table 0 ≡ ws
+  unfolding rowsInto
+  rows-start = refl
 
-pub rows-next : (table : List Symbol) (k : ℕ) → rowsOf table (k + 1) ≡ putRow (rowsOf table k) k (getD table k vacant)
-unfolding rowsOf
-rows-next table k = ap (rowsOf table) (add-one k)
+  pub rows-next : (k : ℕ) → rowsInto ws table (k + 1) ≡ putRow (rowsInto ws table k) k (getD table k vacant)
+  unfolding rowsInto
+  rows-next k = ap (rowsInto ws table) (add-one k)
 
-pub gather-many : (table : List Symbol) → T (ltb 128 (length table)) → replicate 768 0 ≡ gathered table
-unfolding gathered
-gather-many table h = both (ltb 128 (length table)) h
-  where
-    both : (t : Bool) → T t → replicate 768 0 ≡ cond t (replicate 768 0) (rowsOf table (length table))
-    both true z = refl
-    both false z = absurd z
+  pub gather-many : T (ltb 128 (length table)) → ws ≡ gatheredInto ws table
+  unfolding gatheredInto
+  gather-many h = both (ltb 128 (length table)) h
+    where
+      both : (t : Bool) → T t → ws ≡ cond t ws (rowsInto ws table (length table))
+      both true z = refl
+      both false z = absurd z
 
-pub gather-few : (table : List Symbol) → T (not (ltb 128 (length table))) → rowsOf table (length table) ≡ gathered table
-unfolding gathered
-gather-few table h = both (ltb 128 (length table)) h
-  where
-    both : (t : Bool) → T (not t) → rowsOf table (length table) ≡ cond t (replicate 768 0) (rowsOf table (length table))
-    both true z = absurd z
-    both false z = refl
+  pub gather-few : T (not (ltb 128 (length table))) → rowsInto ws table (length table) ≡ gatheredInto ws table
+  unfolding gatheredInto
+  gather-few h = both (ltb 128 (length table)) h
+    where
+      both : (t : Bool) → T (not t) → rowsInto ws table (length table) ≡ cond t ws (rowsInto ws table (length table))
+      both true z = absurd z
+      both false z = refl
 
 -- what stands in the rows is what was put there
 bit-back : (b : Bool) → eqb (bit b) 1 ≡ b
@@ -128,49 +129,47 @@ module _ (ws : List ℕ) (i : ℕ) (s : Symbol) where
       ∙ getD-set-same ws i (s .id) 0 n1 in
       λ t. record { id = e0 t; authority = (ap (λ (w : ℕ). eqb w 1) e1 ∙ bit-back (s .authority)) t; place = e2 t; state = e3 t; layers = e4 t; mark = e5 t }
 
-rows-length : (table : List Symbol) (k : ℕ) → k ≤ 128 → length (rowsOf table k) ≡ 768
-unfolding rowsOf
-rows-length table zero h = length-replicate {A = ℕ} 768 0
-rows-length table (suc k) h =
-    ap length (put-in (rowsOf table k) k (getD table k vacant) (omega arith))
-    ∙ six-length (rowsOf table k) k (getD table k vacant)
-    ∙ rows-length table k (omega arith)
+module _ (ws : List ℕ) (full : length ws ≡ 768) (table : List Symbol) where
+  abbrev rows : ℕ → List ℕ
+  rows k = rowsInto ws table k
 
-row-is : (table : List Symbol) (k j : ℕ) → k ≤ 128 → j < k → rowAt (rowsOf table k) j ≡ getD table j vacant
-unfolding rowsOf
-row-is table zero j l m = absurd (not-suc-le-zero m)
-row-is table (suc k) j l m =
-    let s : Symbol = getD table k vacant in
-    ap (λ (ws : List ℕ). rowAt ws j) (put-in (rowsOf table k) k s (omega arith))
-    ∙ both (eqb j k) refl (λ (h : j < k). row-is table k j (omega arith) h)
-  where
-    both : (t : Bool) → eqb j k ≡ t → (j < k → rowAt (rowsOf table k) j ≡ getD table j vacant) →
-        rowAt (sixSet (rowsOf table k) k (getD table k vacant)) j ≡ getD table j vacant
-    both true e ih =
-        ap (λ (h : ℕ). rowAt (sixSet (rowsOf table k) k (getD table k vacant)) h) (eqb-true j k e)
-        ∙ row-same (rowsOf table k) k (getD table k vacant) (omega arith) (rows-length table k (omega arith))
-        ∙ ap (λ (h : ℕ). getD table h vacant) (sym (eqb-true j k e))
-    both false e ih =
-        row-other (rowsOf table k) k (getD table k vacant) j (omega arith) (omega arith) (eqb-false j k e)
-        ∙ ih (omega (arith, eqb-false j k e))
+  rows-length : (k : ℕ) → k ≤ 128 → length (rows k) ≡ 768
+  unfolding rowsInto
+  rows-length zero h = full
+  rows-length (suc k) h =
+      ap length (put-in (rows k) k (getD table k vacant) (omega arith)) ∙ six-length (rows k) k (getD table k vacant) ∙ rows-length k (omega arith)
 
-back-drop : (table : List Symbol) (i m : ℕ) → length table ≤ 128 → i + m ≡ length table →
-    readFrom (rowsOf table (length table)) i m ≡ drop i table
-unfolding readFrom
-back-drop table i zero l e =
-    let past : length table ≤ i = omega (arith, e) in
-    sym (drop-of-length-le table past)
-back-drop table i (suc m) l e =
-    let here : i < length table = omega (arith, e) in
-    (λ t. row-is table (length table) i l here t ∷ back-drop table (suc i) m l (omega (arith, e)) t)
-    ∙ sym (drop-cons table i vacant here)
+  row-is : (k j : ℕ) → k ≤ 128 → j < k → rowAt (rows k) j ≡ getD table j vacant
+  unfolding rowsInto
+  row-is zero j l m = absurd (not-suc-le-zero m)
+  row-is (suc k) j l m =
+      let s : Symbol = getD table k vacant in
+      ap (λ (ws : List ℕ). rowAt ws j) (put-in (rows k) k s (omega arith)) ∙ both (eqb j k) refl (λ (h : j < k). row-is k j (omega arith) h)
+    where
+      both : (t : Bool) → eqb j k ≡ t → (j < k → rowAt (rows k) j ≡ getD table j vacant) → rowAt (sixSet (rows k) k (getD table k vacant)) j ≡ getD table j vacant
+      both true e ih =
+          ap (λ (h : ℕ). rowAt (sixSet (rows k) k (getD table k vacant)) h) (eqb-true j k e)
+          ∙ row-same (rows k) k (getD table k vacant) (omega arith) (rows-length k (omega arith))
+          ∙ ap (λ (h : ℕ). getD table h vacant) (sym (eqb-true j k e))
+      both false e ih =
+          row-other (rows k) k (getD table k vacant) j (omega arith) (omega arith) (eqb-false j k e) ∙ ih (omega (arith, eqb-false j k e))
+
+  back-drop : (i m : ℕ) → length table ≤ 128 → i + m ≡ length table → readFrom (rows (length table)) i m ≡ drop i table
+  unfolding readFrom
+  back-drop i zero l e =
+      let past : length table ≤ i = omega (arith, e) in
+      sym (drop-of-length-le table past)
+  back-drop i (suc m) l e =
+      let here : i < length table = omega (arith, e) in
+      (λ t. row-is (length table) i l here t ∷ back-drop (suc i) m l (omega (arith, e)) t) ∙ sym (drop-cons table i vacant here)
 
 -- the table, read out of its columns
 pub read-back : (table : List Symbol) → length table ≤ 128 → readFrom (gathered table) 0 (length table) ≡ table
-unfolding gathered
+unfolding gatheredInto
 read-back table h =
-    ap (λ (t : Bool). readFrom (cond t (replicate 768 0) (rowsOf table (length table))) 0 (length table)) (le-ltb 128 (length table) h)
-    ∙ back-drop table 0 (length table) h (zero-add (length table))
+    let zeros : List ℕ = replicate 768 0 in
+    ap (λ (t : Bool). readFrom (cond t zeros (rowsInto zeros table (length table))) 0 (length table)) (le-ltb 128 (length table) h)
+    ∙ back-drop zeros (length-replicate {A = ℕ} 768 0) table 0 (length table) h (zero-add (length table))
 
 -- Whatever is asked of the columns of at most 128 records is asked of the table.
 pub swap : {A : Type 0} (table : List Symbol) (a : A) (F : List Symbol → A) →

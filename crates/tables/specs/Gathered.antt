@@ -8,14 +8,18 @@ use Rattle.columns.specs.declared.symbol.Symbol.{Symbol}
 use Rattle.columns.specs.Rows.{vacant, putRow}
 use Rattle.columns.specs.Search.{slotFor}
 
--- The first k records in their columns.
-unfoldable pub rowsOf : List Symbol → ℕ → List ℕ
-rowsOf table zero = replicate 768 0
-rowsOf table (suc k) = putRow (rowsOf table k) k (getD table k vacant)
+-- The first k records in their columns, over the words that stand there.
+unfoldable pub rowsInto : List ℕ → List Symbol → ℕ → List ℕ
+rowsInto ws table zero = ws
+rowsInto ws table (suc k) = putRow (rowsInto ws table k) k (getD table k vacant)
 
--- The columns of at most 128 records; of more, zeros.
-unfoldable pub gathered : List Symbol → List ℕ
-gathered table = cond (ltb 128 (length table)) (replicate 768 0) (rowsOf table (length table))
+-- The columns of at most 128 records; of more, the words stay.
+unfoldable pub gatheredInto : List ℕ → List Symbol → List ℕ
+gatheredInto ws table = cond (ltb 128 (length table)) ws (rowsInto ws table (length table))
+
+-- The same over zeros.
+abbrev pub gathered : List Symbol → List ℕ
+gathered table = gatheredInto (replicate 768 0) table
 
 -- The first taken record that has the id, or the number of records, which is what a table of more than 128 answers.
 unfoldable pub slotOf : List Symbol → ℕ → ℕ

@@ -1,21 +1,20 @@
 use columns::Symbol;
 use columns::put_row;
 ghost use mathlib.Core.Path.{_≡_};
-ghost use Rattle.tables.specs.Gathered.{gathered};
+ghost use Rattle.tables.specs.Gathered.{gatheredInto};
 
-// The columns of a table: ids, authorities, places, states, layer counts, marks, 128 words each.
-pub fn gather(table: &[Symbol]) -> [u64; 768]
-    ensures { λ r. ⌜ r ≡ gathered (now (table .entry)) ⌝ }
+// Writes a table into its columns: ids, authorities, places, states, layer counts, marks, 128 words each. A table of more
+// records has none, and nothing is written.
+pub fn gather(table: &[Symbol], flat: &mut [u64; 768])
+    ensures { λ _. ⌜ now (flat .exit) ≡ gatheredInto (now (flat .entry)) (now (table .entry)) ⌝ }
 {
-    let mut flat = [0u64; 768];
     if table.len() > 128 {
-        return flat;
+        return;
     }
     let mut i = 0;
     while i < table.len() {
         let s = table[i];
-        put_row(&mut flat, i, s);
+        put_row(flat, i, s);
         i += 1;
     }
-    flat
 }

@@ -19,7 +19,7 @@ use Rattle.walks.proofs.taking.walk_among.Kinds.{ps, r}
 use Rattle.walks.proofs.taking.walk_among.Reads.{Post}
 use Rattle.walks.proofs.entry.walk as walk
 
-pub walk-among-single : (κs : Lfts 3) (a : Dens κs ps) (x y : resT r κs .Denot) (s t : AtExit (endedOf 3 ps r) κs) → Post κs a x s → Post κs a y t →
+pub walk-among-single : (κs : Lfts 4) (a : Dens κs ps) (x y : resT r κs .Denot) (s t : AtExit (endedOf 4 ps r) κs) → Post κs a x s → Post κs a y t →
     (x ≡ y) × (now (s .1 .1 .1 .1 .1 .1 .0) ≡ now (t .1 .1 .1 .1 .1 .1 .0))
 walk-among-single κs a x y s t p q = (p .0 ∙ sym (q .0), p .1 ∙ sym (q .1))
 

@@ -19,6 +19,7 @@ pub fn walk<'a>(
     ensures { λ r. ⌜ (r ≡ flat (rules.delivered (length (now (out .entry))) (rules.walkTo (now (known .entry)) (now (steps .entry)) address (now (table .entry)) (now (store .entry)))))
         × (now (out .exit) ≡ rules.over (rules.walkTo (now (known .entry)) (now (steps .entry)) address (now (table .entry)) (now (store .entry))) (now (out .entry))) ⌝ }
 {
-    let columns = gather(table);
-    walk_among(columns, table.len(), known, steps, address, store, out)
+    let mut columns = [0u64; 768];
+    gather(table, &mut columns);
+    walk_among(&columns, table.len(), known, steps, address, store, out)
 }

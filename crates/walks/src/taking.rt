@@ -81,7 +81,7 @@ fn walk_ordered<'a>(
 
 // The walk with a table in columns.
 pub fn walk_among<'a>(
-    columns: [u64; 768],
+    columns: &[u64; 768],
     n: usize,
     known: &'a [u64],
     steps: &[u64],
@@ -89,14 +89,14 @@ pub fn walk_among<'a>(
     store: &'a [u64],
     out: &mut [u64],
 ) -> Answer
-    ensures { λ r. ⌜ (r ≡ flat (rules.delivered (length (now (out .entry))) (rules.walkTo (now (known .entry)) (now (steps .entry)) address (readFrom columns 0 n) (now (store .entry)))))
-        × (now (out .exit) ≡ rules.over (rules.walkTo (now (known .entry)) (now (steps .entry)) address (readFrom columns 0 n) (now (store .entry))) (now (out .entry))) ⌝ }
+    ensures { λ r. ⌜ (r ≡ flat (rules.delivered (length (now (out .entry))) (rules.walkTo (now (known .entry)) (now (steps .entry)) address (readFrom (now (columns .entry)) 0 n) (now (store .entry)))))
+        × (now (out .exit) ≡ rules.over (rules.walkTo (now (known .entry)) (now (steps .entry)) address (readFrom (now (columns .entry)) 0 n) (now (store .entry))) (now (out .entry))) ⌝ }
 {
     match check_type(known) {
         Checked::Refused { number, place } => refused(number, place),
         Checked::Good(_) => match check_steps(steps, MOST) {
             Checked::Refused { number, place } => refused(number, place),
-            Checked::Good(_) => walk_ordered(&columns, n, known, steps, address, store, out),
+            Checked::Good(_) => walk_ordered(columns, n, known, steps, address, store, out),
         },
     }
 }
