@@ -2,7 +2,7 @@
 use Prim.Native.Nat.{ℕ}
 use Rattle.layers.specs.Answer as paper
 use Rattle.layers.specs.Answer.{given, nothing, refused}
-use Rattle.sizes.specs.declared.answers.Halves.{Halves}
+use Rattle.bounds.specs.declared.values.Halves.{Halves}
 use Rattle.answers.specs.declared.flat.Answer.{Answer}
 
 -- Accepted, with a value.

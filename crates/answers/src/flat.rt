@@ -1,13 +1,14 @@
+use bounds::Bound;
 use layers::Checked;
 use layers::Verdict;
 use parts::Start;
-use sizes::Bound;
 use sizes::Count;
 use sizes::Size;
 ghost use mathlib.Core.Path.{_≡_};
 ghost use Rattle.layers.specs.Answer.{ofChecked, ofVerdict};
 ghost use Rattle.parts.specs.Starts.{ofStart};
-ghost use Rattle.sizes.specs.Answer.{ofSize, ofCount, ofBound};
+ghost use Rattle.sizes.specs.Answer.{ofSize, ofCount};
+ghost use Rattle.bounds.specs.Answer.{ofBound};
 ghost use Rattle.answers.specs.Flat as rules;
 
 // An answer as C has it: the refusal's number, or 0; and the value, or the refusal's place.

@@ -1,10 +1,10 @@
+use bounds::Bound;
 use forms::Property;
 use layers::Checked;
 use layers::Verdict;
 use parts::Part;
 use parts::Start;
 use roles::Role;
-use sizes::Bound;
 use sizes::Count;
 use sizes::Size;
 
@@ -108,9 +108,9 @@ fn measures(ws: &[u64]) {
     text(b" |");
     size(sizes::known_size_in_bytes_as_word_member(ws));
     count(sizes::pointer_depth(ws));
-    bound(sizes::min_i128(ws));
-    bound(sizes::max_u128(ws));
-    size(sizes::stored_size(ws));
+    bound(bounds::min_i128(ws));
+    bound(bounds::max_u128(ws));
+    size(storage::stored_size(ws));
 }
 
 pub(crate) fn heading() {

@@ -1,8 +1,6 @@
 -- What the proofs of several functions use.
 pub mod KnownSizes
 pub mod Pointers
-pub mod Extremes
-pub mod Measured
 pub mod Apart
 pub mod Single
 pub mod Cases

@@ -5,9 +5,6 @@ use Rattle.sizes.specs.declared.answers.Size.{Size}
 use Rattle.sizes.specs.declared.answers.Size.the-variants as size
 use Rattle.sizes.specs.declared.answers.Count.{Count}
 use Rattle.sizes.specs.declared.answers.Count.the-variants as count
-use Rattle.sizes.specs.declared.answers.Halves.{Halves}
-use Rattle.sizes.specs.declared.answers.Bound.{Bound}
-use Rattle.sizes.specs.declared.answers.Bound.the-variants as bound
 
 -- The bytes, or "No size".
 abbrev pub ofSize : Size → Answer ℕ
@@ -18,8 +15,3 @@ ofSize (size.Refused n p) = refused n p
 abbrev pub ofCount : Count → Answer ℕ
 ofCount (count.Of n) = given n
 ofCount (count.Refused n p) = refused n p
-
--- "in two u64 halves"
-abbrev pub ofBound : Bound → Answer Halves
-ofBound (bound.Value l h) = given (record { low = l; high = h })
-ofBound (bound.Refused n p) = refused n p

@@ -1,5 +1,3 @@
 pub mod Answer
 pub mod Known
 pub mod Depth
-pub mod Bounds
-pub mod Stored

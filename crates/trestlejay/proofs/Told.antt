@@ -3,7 +3,7 @@
 use mathlib.Core.Path.{_≡_, ap, _∙_}
 use Prim.Native.Nat.{ℕ}
 use Rattle.layers.specs.Answer as paper
-use Rattle.sizes.specs.declared.answers.Halves.{Halves}
+use Rattle.bounds.specs.declared.values.Halves.{Halves}
 use Rattle.answers.specs.declared.flat.Answer.{Answer}
 use Rattle.answers.specs.Flat.{flat, flatFound, foundAfter, flatHalves, lowAfter, highAfter}
 

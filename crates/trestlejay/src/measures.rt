@@ -2,8 +2,8 @@ use answers::Answer;
 ghost use mathlib.Core.Path.{_≡_};
 ghost use Rattle.sizes.specs.Known.{knownSizeAnswer};
 ghost use Rattle.sizes.specs.Depth.{pointerDepthAnswer};
-ghost use Rattle.sizes.specs.Bounds.{lowestAnswer, highestAnswer};
-ghost use Rattle.sizes.specs.Stored.{storedSizeAnswer};
+ghost use Rattle.bounds.specs.Bounds.{lowestAnswer, highestAnswer};
+ghost use Rattle.storage.specs.Stored.{storedSizeAnswer};
 ghost use Rattle.answers.specs.Flat as rules;
 
 #[no_mangle]
@@ -26,7 +26,7 @@ pub extern "C" fn tj_stored_size(t: &[u64], size: &mut u64) -> Answer
     ensures answer { λ r. ⌜ r ≡ rules.flatFound (storedSizeAnswer (now (t .entry))) ⌝ }
     ensures written { λ _. ⌜ now (size .exit) ≡ rules.foundAfter (storedSizeAnswer (now (t .entry))) (now (size .entry)) ⌝ }
 {
-    answers::size(sizes::stored_size(t), size)
+    answers::size(storage::stored_size(t), size)
 }
 
 #[no_mangle]
@@ -35,7 +35,7 @@ pub extern "C" fn tj_min_i128(t: &[u64], low: &mut u64, high: &mut u64) -> Answe
     ensures lower { λ _. ⌜ now (low .exit) ≡ rules.lowAfter (lowestAnswer (now (t .entry))) (now (low .entry)) ⌝ }
     ensures upper { λ _. ⌜ now (high .exit) ≡ rules.highAfter (lowestAnswer (now (t .entry))) (now (high .entry)) ⌝ }
 {
-    answers::bound(sizes::min_i128(t), low, high)
+    answers::bound(bounds::min_i128(t), low, high)
 }
 
 #[no_mangle]
@@ -44,5 +44,5 @@ pub extern "C" fn tj_max_u128(t: &[u64], low: &mut u64, high: &mut u64) -> Answe
     ensures lower { λ _. ⌜ now (low .exit) ≡ rules.lowAfter (highestAnswer (now (t .entry))) (now (low .entry)) ⌝ }
     ensures upper { λ _. ⌜ now (high .exit) ≡ rules.highAfter (highestAnswer (now (t .entry))) (now (high .entry)) ⌝ }
 {
-    answers::bound(sizes::max_u128(t), low, high)
+    answers::bound(bounds::max_u128(t), low, high)
 }

@@ -1,5 +1,6 @@
 use borrow.Author.Needs.{needs}
 use Rattle.answers.specs.Flat as rules
+use Rattle.answers.proofs.Variants.{of-bound, low-after, high-after}
 use Rattle.answers.proofs.flat.bound.Statement.{statement}
 use Rattle.answers.proofs.flat.bound.Tie as tie
 
@@ -12,5 +13,5 @@ bound-spec =
     (λ c κs. search needs)
     (λ c. search needs)
     (λ c κs. search needs)
-    (λ c. ((cc), ((cc), (cc))))
-    (λ c. ((cc), ((cc), (cc)))))
+    (λ c. (search of-bound, (search low-after, search high-after)))
+    (λ c. (search of-bound, (search low-after, search high-after))))

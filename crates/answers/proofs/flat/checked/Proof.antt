@@ -1,5 +1,6 @@
 use borrow.Author.Needs.{needs}
 use Rattle.answers.specs.Flat as rules
+use Rattle.answers.proofs.Variants.{of-checked}
 use Rattle.answers.proofs.flat.checked.Statement.{statement}
 use Rattle.answers.proofs.flat.checked.Tie as tie
 
@@ -12,5 +13,5 @@ checked-spec =
     (λ c κs. search needs)
     (λ c. search needs)
     (λ c κs. search needs)
-    (λ c. cc)
-    (λ c. cc))
+    (λ c. search of-checked)
+    (λ c. search of-checked))

@@ -1,5 +1,6 @@
 use borrow.Author.Needs.{needs}
 use Rattle.answers.specs.Flat as rules
+use Rattle.answers.proofs.Variants.{of-count}
 use Rattle.answers.proofs.flat.count.Statement.{statement}
 use Rattle.answers.proofs.flat.count.Tie as tie
 
@@ -12,5 +13,5 @@ count-spec =
     (λ c κs. search needs)
     (λ c. search needs)
     (λ c κs. search needs)
-    (λ c. cc)
-    (λ c. cc))
+    (λ c. search of-count)
+    (λ c. search of-count))

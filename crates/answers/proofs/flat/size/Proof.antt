@@ -1,5 +1,6 @@
 use borrow.Author.Needs.{needs}
 use Rattle.answers.specs.Flat as rules
+use Rattle.answers.proofs.Variants.{of-size, size-after}
 use Rattle.answers.proofs.flat.size.Statement.{statement}
 use Rattle.answers.proofs.flat.size.Tie as tie
 
@@ -14,6 +15,6 @@ size-spec =
     (λ c κs. search needs)
     (λ c. search needs)
     (λ c κs. search needs)
-    (λ c. ((cc), (cc)))
-    (λ c. ((cc), (cc)))
-    (λ c. ((cc), (cc))))
+    (λ c. (search of-size, search size-after))
+    (λ c. (search of-size, search size-after))
+    (λ c. (search of-size, search size-after)))

@@ -1,5 +1,6 @@
 use borrow.Author.Needs.{needs}
 use Rattle.answers.specs.Flat as rules
+use Rattle.answers.proofs.Variants.{of-verdict}
 use Rattle.answers.proofs.flat.verdict.Statement.{statement}
 use Rattle.answers.proofs.flat.verdict.Tie as tie
 
@@ -14,6 +15,6 @@ verdict-spec =
     (λ c κs. search needs)
     (λ c. search needs)
     (λ c κs. search needs)
-    (λ c. cc)
-    (λ c. cc)
-    (λ c. cc))
+    (λ c. search of-verdict)
+    (λ c. search of-verdict)
+    (λ c. search of-verdict))

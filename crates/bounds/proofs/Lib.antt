@@ -1,0 +1,3 @@
+pub mod Extremes
+pub mod Apart
+pub mod Single

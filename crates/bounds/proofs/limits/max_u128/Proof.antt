@@ -1,0 +1,17 @@
+use borrow.Author.Needs.{needs}
+use Rattle.layers.proofs.Refusals.{refuses, accepts}
+use Rattle.bounds.specs.Bounds.{highestAnswer}
+use Rattle.bounds.proofs.limits.max_u128.Statement.{statement}
+use Rattle.bounds.proofs.limits.max_u128.Tie as tie
+
+pub max-u128-spec : {M : Type 1} → statement M
+unfolding highestAnswer
+max-u128-spec =
+    tie.close
+    (tie.spec
+    (λ c κs. search needs)
+    (λ c. search needs)
+    (λ c. search needs)
+    (λ c κs. search needs)
+    (λ c. search refuses)
+    (λ c. search accepts))

@@ -1,0 +1,3 @@
+pub mod Measured
+pub mod Single
+pub mod Cases
