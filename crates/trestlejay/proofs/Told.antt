@@ -1,11 +1,20 @@
 -- What is flattened of an answer, and written behind pointers, by the rule that the answer meets.
 -- Assumes nothing.
-use mathlib.Core.Path.{_≡_, ap, _∙_}
+use mathlib.Core.Path.{_≡_, refl, sym, ap, _∙_}
+use mathlib.Core.Bool.{Bool, true, false, _&&_, and-false, false≢true}
+use mathlib.Core.List.{List}
 use Prim.Native.Nat.{ℕ}
+use Rattle.layers.specs.Layers.{layers}
 use Rattle.layers.specs.Answer as paper
+use Rattle.layers.specs.Answer.{given, nothing, refused, next, truth}
+use Rattle.layers.specs.Check.{checkOf, isGood}
+use Rattle.layers.proofs.Decide.{both}
+use Rattle.questions.specs.Answers.{relates, relationAnswer, passes, coercionAnswer}
+use Rattle.questions.specs.declared.relate.Relation.{Relation}
+use Rattle.questions.specs.declared.coerce.Coercion.{Coercion}
 use Rattle.bounds.specs.declared.values.Halves.{Halves}
 use Rattle.answers.specs.declared.flat.Answer.{Answer}
-use Rattle.answers.specs.Flat.{flat, flatFound, foundAfter, flatHalves, lowAfter, highAfter}
+use Rattle.answers.specs.Flat.{accepted, flat, flatFound, foundAfter, flatHalves, lowAfter, highAfter}
 
 module _ (a b : paper.Answer ℕ) (e : a ≡ b) where
   pub flat-of : (r : Answer) → r ≡ flat a → r ≡ flat b
@@ -26,3 +35,34 @@ module _ (a b : paper.Answer Halves) (e : a ≡ b) where
 
   pub high-of : (before after : ℕ) → after ≡ highAfter a before → after ≡ highAfter b before
   high-of before after q = q ∙ ap (λ (x : paper.Answer Halves). highAfter x before) e
+
+pub yes-told : (f : Bool) (r : Answer) → f ≡ true → r ≡ accepted 1 → r ≡ flat (truth f)
+unfolding flat
+yes-told f r e q = rw e q
+
+pub no-told : (f : Bool) (r : Answer) → f ≡ false → r ≡ accepted 0 → r ≡ flat (truth f)
+unfolding flat
+no-told f r e q = rw e q
+
+pub both-of : (a b x y : Bool) → a ≡ x → b ≡ y → (a && b) ≡ (x && y)
+both-of a b x y p q = rw (p, q)
+
+-- both are types: no refusal comes before what follows
+passed : (x t : paper.Answer ℕ) → isGood x ≡ true → next x t ≡ t
+passed (given n) t e = refl
+passed nothing t e = absurd (false≢true e)
+passed (refused n p) t e = absurd (false≢true e)
+
+module _ (a b : List ℕ) (g f : Bool) (r : Answer) (p : g ≡ (isGood (checkOf a) && isGood (checkOf b))) (h : g ≡ true) (q : r ≡ flat (truth f)) where
+  follows : next (checkOf a) (next (checkOf b) (truth f)) ≡ truth f
+  follows =
+      let e = both (isGood (checkOf a)) (isGood (checkOf b)) (sym p ∙ h) in
+      passed (checkOf a) _ (e .0) ∙ passed (checkOf b) _ (e .1)
+
+  pub relation-direct : (w : Relation) → f ≡ relates w (layers a) (layers b) → r ≡ flat (relationAnswer w a b)
+  unfolding relationAnswer
+  relation-direct w e = q ∙ ap flat (rw (← e) (sym follows))
+
+  pub coercion-direct : (w : Coercion) → f ≡ passes w (layers a) (layers b) → r ≡ flat (coercionAnswer w a b)
+  unfolding coercionAnswer
+  coercion-direct w e = q ∙ ap flat (rw (← e) (sym follows))

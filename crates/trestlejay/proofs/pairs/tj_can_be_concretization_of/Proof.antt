@@ -1,5 +1,5 @@
 use borrow.Author.Needs.{needs}
-use Rattle.trestlejay.proofs.Told.{flat-of}
+use Rattle.trestlejay.proofs.Told.{flat-of, relation-direct}
 use Rattle.trestlejay.proofs.pairs.tj_can_be_concretization_of.Statement.{statement}
 use Rattle.trestlejay.proofs.pairs.tj_can_be_concretization_of.Tie as tie
 
@@ -7,6 +7,10 @@ pub tj-can-be-concretization-of-spec : {M : Type 1} → statement M
 tj-can-be-concretization-of-spec =
     tie.close
     (tie.spec
+    (λ c κs. search needs)
+    (λ c κs. search needs)
+    (λ c κs. search needs)
+    (λ c. search relation-direct)
     (λ c κs. search needs)
     (λ c κs. search needs)
     (λ c. search flat-of))

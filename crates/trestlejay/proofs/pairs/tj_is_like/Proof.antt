@@ -1,5 +1,5 @@
 use borrow.Author.Needs.{needs}
-use Rattle.trestlejay.proofs.Told.{flat-of}
+use Rattle.trestlejay.proofs.Told.{flat-of, relation-direct}
 use Rattle.trestlejay.proofs.pairs.tj_is_like.Statement.{statement}
 use Rattle.trestlejay.proofs.pairs.tj_is_like.Tie as tie
 
@@ -7,6 +7,10 @@ pub tj-is-like-spec : {M : Type 1} → statement M
 tj-is-like-spec =
     tie.close
     (tie.spec
+    (λ c κs. search needs)
+    (λ c κs. search needs)
+    (λ c κs. search needs)
+    (λ c. search relation-direct)
     (λ c κs. search needs)
     (λ c κs. search needs)
     (λ c. search flat-of))
