@@ -47,18 +47,18 @@ use Rattle.columns.proofs.symbol.Symbol as T
 use Rattle.columns.proofs.symbol.Symbol.Laws as T′
 use Rattle.answers.proofs.flat.Answer as R
 use Rattle.answers.proofs.flat.Answer.Laws as R′
-use Rattle.updates.specs.Lone.{loneUpdated, loneWordsAfter}
+use Rattle.lone.specs.Lone.{loneUpdated, loneWordsAfter}
 use Rattle.updates.specs.declared.record.Updated.{Updated}
 use Rattle.updates.proofs.record.Updated as N
 use Rattle.updates.proofs.record.Updated.Laws as N′
-use Rattle.updates.proofs.lone.update_lone as lone
-use Rattle.updates.proofs.lone.update_lone.Symbol as lone-def
-use Rattle.updates.proofs.lone.update_lone.Symbol.{name as #update-lone}
-use Rattle.updates.proofs.lone.update_lone.Met as lone-thm
-use Rattle.updates.proofs.lone.do_update_symbol.Key.{name as #do-update-symbol}
-use Rattle.updates.proofs.lone.do_update_symbol as f
-use Rattle.updates.proofs.lone.do_update_symbol.Statement as stated
-use Rattle.updates.proofs.lone.do_update_symbol.Code as code
+use Rattle.lone.proofs.lent.update_lone as lone
+use Rattle.lone.proofs.lent.update_lone.Symbol as lone-def
+use Rattle.lone.proofs.lent.update_lone.Symbol.{name as #update-lone}
+use Rattle.lone.proofs.lent.update_lone.Met as lone-thm
+use Rattle.lone.proofs.lent.do_update_symbol.Key.{name as #do-update-symbol}
+use Rattle.lone.proofs.lent.do_update_symbol as f
+use Rattle.lone.proofs.lent.do_update_symbol.Statement as stated
+use Rattle.lone.proofs.lent.do_update_symbol.Code as code
 
 abbrev stayed : Stays (f.ended .signature .params) (f.ended .kept)
 stayed = (stay-ref (0 ∷ []) tt (plain (λ _. T.the-row)), (gave-slice (1 ∷ []) tt (plain (λ _. u64)), (stay-none (λ _. u32) yes, (stay-none (λ _. bool) yes, (stay-none (λ _. u64) yes, (stay-none-slice (2 ∷ []) tt (plain (λ _. u64)) yes, tt))))))
@@ -202,4 +202,4 @@ do-update-symbol-spec 𝓤 H 𝓜 𝓖 𝓡 =
     entered 𝓤 H (tripleOf 𝓤 H (𝓖 .A) f.signature (f.spec 𝓤 H (𝓖 .A) (𝓜 .mem) (𝓡 .run)))
     (tables 𝓤 H 𝓜 𝓡 code.env .C) (tables 𝓤 H 𝓜 𝓡 code.env .Λ) #do-update-symbol code.function (code.unfolded 𝓤 H 𝓜 𝓡)
     (do-update-symbol-meets 𝓤 H (𝓖 .A) (givenOf 𝓤 H 𝓜 𝓖) (𝓜 .mem) (𝓡 .run) (tablesOf 𝓤 H 𝓜 (tables 𝓤 H 𝓜 𝓡 code.env))
-    (cited 𝓤 H (Lone 𝓤 H (𝓖 .A) (𝓜 .mem) (𝓡 .run)) 𝓜 𝓡 code.env #update-lone lone-def.routine code.calls-updates·lone·update-lone (lone-thm.met 𝓤 H 𝓜 𝓖 𝓡)))
+    (cited 𝓤 H (Lone 𝓤 H (𝓖 .A) (𝓜 .mem) (𝓡 .run)) 𝓜 𝓡 code.env #update-lone lone-def.routine code.calls-lone·lent·update-lone (lone-thm.met 𝓤 H 𝓜 𝓖 𝓡)))

@@ -1,7 +1,7 @@
 use borrow.Author.Needs.{needs}
-use Rattle.updates.proofs.Passing.{fails, succeeds}
-use Rattle.updates.proofs.lone.passes.Statement.{statement}
-use Rattle.updates.proofs.lone.passes.Tie as tie
+use Rattle.lone.proofs.Passing.{fails, succeeds}
+use Rattle.lone.proofs.lent.passes.Statement.{statement}
+use Rattle.lone.proofs.lent.passes.Tie as tie
 
 pub passes-spec : {M : Type 1} → statement M
 passes-spec =

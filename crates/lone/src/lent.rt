@@ -1,15 +1,14 @@
-use crate::record::Updated;
-use crate::record::stored;
-use crate::record::update;
 use answers::Answer;
 use answers::refused;
 use columns::Symbol;
 use layers::Checked;
 use layers::check_type;
+use updates::Updated;
+use updates::update;
 ghost use mathlib.Core.Path.{_≡_};
 ghost use Rattle.layers.specs.Check.{checkOf};
 ghost use Rattle.orders.specs.Order.{isGood};
-ghost use Rattle.updates.specs.Lone as rules;
+ghost use Rattle.lone.specs.Lone as rules;
 
 // Whether words pass the checks 1 to 3.
 fn passes(ws: &[u64]) -> bool
@@ -42,7 +41,7 @@ fn in_order(s: Symbol, words: &[u64]) -> bool
     if n > 16 {
         return false;
     }
-    passes(stored(words, n))
+    passes(&words[..n as usize * 3])
 }
 
 // Updates a record that stands alone, with its 48 words.

@@ -1,7 +1,7 @@
 use borrow.Author.Needs.{needs}
-use Rattle.updates.proofs.Alone.{answers-refused, keeps-refused, answers-disordered, keeps-disordered, answers-updated, leaves-updated}
-use Rattle.updates.proofs.lone.update_lone.Statement.{statement}
-use Rattle.updates.proofs.lone.update_lone.Tie as tie
+use Rattle.lone.proofs.Alone.{answers-refused, keeps-refused, answers-disordered, keeps-disordered, answers-updated, leaves-updated}
+use Rattle.lone.proofs.lent.update_lone.Statement.{statement}
+use Rattle.lone.proofs.lent.update_lone.Tie as tie
 
 pub update-lone-spec : {M : Type 1} → statement M
 update-lone-spec =

@@ -1,12 +1,13 @@
 -- A record that stands alone: whether it is in order, and what becomes of it, by what the code tested.
 -- Assumes nothing.
-use mathlib.Core.Path.{_≡_, refl}
+use mathlib.Core.Path.{_≡_, refl, sym}
 use mathlib.Core.Bool.{Bool, true, false, cond, not, _&&_}
 use mathlib.Core.List.{List, [], _∷_}
-use Prim.Native.Nat.{ℕ, _/_, _<_, _≤_}
+use Prim.Native.Nat.{ℕ, _*_, _<_, _≤_}
 use native.Mathlib.Omega.{arith}
 use lib.Dec.{eqb, leb}
-use lib.ListN.{length}
+use lib.ListN.{length, take}
+use lib.Seq.{length-take-le}
 use borrow.Author.Tests.{eqb-false, ne-eqb, lt-leb, le-leb}
 use Rattle.layers.specs.Answer.{given, refused, ofChecked}
 use Rattle.layers.specs.Check.{checkOf}
@@ -16,10 +17,9 @@ use Rattle.orders.specs.Order.{isGood, knownStates, allFree, takenFirst, taken,
 use Rattle.columns.specs.declared.symbol.Symbol.{Symbol}
 use Rattle.answers.specs.declared.flat.Answer.{Answer}
 use Rattle.answers.specs.Flat.{notAccepted}
-use Rattle.updates.specs.Updates.{storedOf, updated, wordsAfter}
-use Rattle.updates.specs.Lone.{loneInOrder, loneCheck, loneUpdated, loneWordsAfter}
+use Rattle.updates.specs.Updates.{updated, wordsAfter}
+use Rattle.lone.specs.Lone.{loneInOrder, loneCheck, loneUpdated, loneWordsAfter}
 use Rattle.updates.specs.declared.record.Updated.{Updated}
-use Rattle.updates.proofs.Parts.{present}
 
 -- a table of one record
 module _ (s : Symbol) (ws : List ℕ) where
@@ -67,12 +67,13 @@ module _ (s : Symbol) (ws : List ℕ) where
         unfolding passes
         too-many m = rw (one, h, t, lt-leb (s .layers) 16 m)
 
-        pub typed-fits : (part : List ℕ) (r : Bool) → s .layers ≤ 16 → part ≡ storedOf (s .layers) ws → r ≡ isGood (checkOf part) →
-            r ≡ loneInOrder s ws
-        unfolding passes
-        typed-fits part r m e f =
-            let room : s .layers ≤ length ws / 3 = omega arith in
-            rw (one, h, t, le-leb (s .layers) 16 m, present (s .layers) ws room, ← e, f)
+        module _ (m : s .layers ≤ 16) where
+          pub in-words : s .layers * 3 ≡ length (take (s .layers * 3) ws)
+          in-words = sym (length-take-le (s .layers * 3) ws (omega arith))
+
+          pub typed-fits : (r : Bool) → r ≡ isGood (checkOf (take (s .layers * 3) ws)) → r ≡ loneInOrder s ws
+          unfolding passes
+          typed-fits r f = rw (one, h, t, le-leb (s .layers) 16 m, f)
 
 -- x is what the checks said of the offered words
 module _ (s : Symbol) (ws : List ℕ) (authority : Bool) (offered : List ℕ) (x : Checked) (e : ofChecked x ≡ checkOf offered) where
