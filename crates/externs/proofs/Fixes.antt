@@ -1,8 +1,8 @@
 -- What becomes of a type, by what the code tested.
 -- Assumes nothing.
 use mathlib.Core.Path.{_≡_, refl, sym, ap, _∙_}
-use mathlib.Core.Bool.{Bool, true, false, not, _&&_, _||_}
-use mathlib.Core.List.{List, [], _++_}
+use mathlib.Core.Bool.{Bool, true, false, cond, not, _&&_, _||_}
+use mathlib.Core.List.{List, [], _∷_, _++_}
 use Prim.Native.Nat.{ℕ, _-_, _%_, _≤_, _<_}
 use native.Mathlib.Omega.{arith}
 use lib.Dec.{eqb}
@@ -11,7 +11,7 @@ use lib.Seq.{take-at, length-take-le}
 use borrow.Author.Tests.{eq-eqb, ne-eqb, lt-ltb, le-ltb, not-true, not-false}
 use Rattle.kinds.specs.Kind as kind
 use Rattle.kinds.specs.Words.{words}
-use Rattle.layers.specs.Layers.{Layer, layers, outer, inside, spelled}
+use Rattle.layers.specs.Layers.{Layer, layer, layers, outer, inside, spelled}
 use Rattle.layers.specs.Answer.{Answer, given, nothing, refused, ofChecked}
 use Rattle.layers.specs.Check.{checkOf}
 use Rattle.layers.specs.declared.answers.Checked.{Checked}
@@ -21,6 +21,7 @@ use Rattle.forms.specs.Formed.{wellFormed}
 use Rattle.buffers.specs.Written.{written}
 use Rattle.buffers.proofs.Writing.{fits}
 use Rattle.externs.specs.Fixing.{parameter, returned, member, under, externalized, externalize, fixedExtern, fixedPlain, fixed}
+use Rattle.externs.specs.Plain.{frontBy, frontOf, behind}
 use Rattle.externs.specs.Outcome.{delivered, told, over}
 use Rattle.layers.proofs.Accepted.{Whole, accepted-whole}
 use Rattle.externs.specs.Answers.{fixedType}
@@ -40,31 +41,59 @@ whole-inside ws l w e =
     let n : length l ≡ length ws - 3 = rw e (length-drop 3 ws) in
     record { whole = omega (arith, w .whole); few = omega (arith, w .few) }
 
--- not extern
-module _ (ws : List ℕ) (context k : ℕ) (e : k ≡ outer (layers ws)) where
-  pub as-slice : (front l : List ℕ) → front ≡ words kind.slice 0 0 → l ≡ drop 3 ws → k ≡ kind.arraylike →
-      layers front ++ layers l ≡ fixedPlain context (layers ws)
+-- not extern, by the case that applies
+by-case : (x y z : Bool) (ws : List ℕ) → (frontBy x y z ≡ kind.void → ⊥) →
+    layers (words (frontBy x y z) 0 0) ++ layers (behind (frontBy x y z) ws)
+    ≡ cond x (layer kind.slice 0 0 ∷ inside (layers ws))
+    (cond y (layer kind.view 0 0 ∷ layers ws)
+    (cond z (layer kind.slicePointer 0 0 ∷ inside (inside (layers ws))) (layers ws)))
+unfolding layers
+by-case true y z ws n = rw (inner-layers ws)
+by-case false true z ws n = refl
+by-case false false true ws n = rw (inner-layers (drop 3 ws), inner-layers ws)
+by-case false false false ws n = absurd (n refl)
+
+by-none : (x y z : Bool) (a b c d : List Layer) → frontBy x y z ≡ kind.void → d ≡ cond x a (cond y b (cond z c d))
+by-none true y z a b c d e = absurd (omega (arith, e))
+by-none false true z a b c d e = absurd (omega (arith, e))
+by-none false false true a b c d e = absurd (omega (arith, e))
+by-none false false false a b c d e = refl
+
+module _ (ws l : List ℕ) (context k j front : ℕ) (v : Bool) (e : k ≡ outer (layers ws)) (d : l ≡ drop 3 ws) (o : j ≡ outer (layers l))
+    (w : v ≡ (eqb context parameter || eqb context returned)) (f : front ≡ frontOf k j v) where
+  held : j ≡ outer (inside (layers ws))
+  held = o ∙ rw (d, inner-layers ws)
+
+  pub with-front : (r : List ℕ) → (front ≡ kind.void → ⊥) → r ≡ behind front ws → layers (words front 0 0) ++ layers r ≡ fixedPlain context (layers ws)
+  unfolding fixedPlain
+  with-front r n b =
+      rw (b, ← e, ← held, ← w, f)
+      (by-case (eqb k kind.arraylike) (eqb k kind.struct && v) (eqb k kind.pointer && eqb j kind.arraylike) ws (rw f at n))
+
+  pub as-it-is : front ≡ kind.void → layers [] ++ layers ws ≡ fixedPlain context (layers ws)
   unfolding layers fixedPlain
-  as-slice front l f d h = rw (f, d, inner-layers ws, ← e, eq-eqb k kind.arraylike h)
+  as-it-is n =
+      rw (← e, ← held, ← w)
+      (by-none (eqb k kind.arraylike) (eqb k kind.struct && v) (eqb k kind.pointer && eqb j kind.arraylike) _ _ _ (layers ws) (sym f ∙ n))
 
-  module _ (n : k ≡ kind.arraylike → ⊥) (v : Bool) (w : v ≡ (eqb context parameter || eqb context returned)) where
-    pub as-view : (front : List ℕ) → front ≡ words kind.view 0 0 → (eqb k kind.struct && v) ≡ true →
-        layers front ++ layers ws ≡ fixedPlain context (layers ws)
-    unfolding layers fixedPlain
-    as-view front f t = rw (f, ← e, ne-eqb k kind.arraylike n, ← w, t)
+module _ (front : ℕ) (ws : List ℕ) where
+  pub behind-slice : (r : List ℕ) → front ≡ kind.slice → r ≡ drop 3 ws → r ≡ behind front ws
+  behind-slice r e q = rw e q
 
-    module _ (s : (eqb k kind.struct && v) ≡ false) (l : List ℕ) (d : l ≡ drop 3 ws) (j : ℕ) (o : j ≡ outer (layers l)) where
-      inner-kind : j ≡ outer (inside (layers ws))
-      inner-kind = o ∙ rw (d, inner-layers ws)
+  module _ (n : front ≡ kind.slice → ⊥) where
+    pub behind-slice-pointer : (r l : List ℕ) → front ≡ kind.slicePointer → l ≡ drop 3 ws → r ≡ drop 3 l → r ≡ behind front ws
+    behind-slice-pointer r l e p q = rw (e, ← p) q
 
-      pub as-slice-pointer : (front m : List ℕ) → front ≡ words kind.slicePointer 0 0 → m ≡ drop 3 l → (eqb k kind.pointer && eqb j kind.arraylike) ≡ true →
-          layers front ++ layers m ≡ fixedPlain context (layers ws)
-      unfolding layers fixedPlain
-      as-slice-pointer front m f c t = rw (f, c, inner-layers l, d, inner-layers ws, ← e, ne-eqb k kind.arraylike n, ← w, s, ← inner-kind, t)
+    pub behind-none : (front ≡ kind.slicePointer → ⊥) → ws ≡ behind front ws
+    behind-none m = rw (ne-eqb front kind.slice n, ne-eqb front kind.slicePointer m)
 
-      pub as-it-is : (eqb k kind.pointer && eqb j kind.arraylike) ≡ false → layers [] ++ layers ws ≡ fixedPlain context (layers ws)
-      unfolding layers fixedPlain
-      as-it-is t = rw (← e, ne-eqb k kind.arraylike n, ← w, s, ← inner-kind, t)
+pub whole-behind : (ws r : List ℕ) (front : ℕ) → Whole ws → r ≡ behind front ws → Whole r
+whole-behind ws r front w e = by-front (eqb front kind.slice) (eqb front kind.slicePointer) e
+  where
+    by-front : (x y : Bool) → r ≡ cond x (drop 3 ws) (cond y (drop 3 (drop 3 ws)) ws) → Whole r
+    by-front true y p = whole-inside ws r w p
+    by-front false true p = whole-inside (drop 3 ws) r (whole-inside ws (drop 3 ws) w refl) p
+    by-front false false p = rw p w
 
 -- extern: the type handed to externalizing
 module _ (room place : ℕ) (front : List Layer) (t : List ℕ) where

@@ -2,3 +2,4 @@ pub mod Fixing
 pub mod Outcome
 pub mod Room
 pub mod Answers
+pub mod Plain

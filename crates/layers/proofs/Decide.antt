@@ -23,6 +23,10 @@ pub both : (u v : Bool) → (u && v) ≡ true → (u ≡ true) × (v ≡ true)
 both true v e = (refl, e)
 both false v e = absurd (false≢true e)
 
+-- both of two tests, where the code holds the outcome of each
+pub both-of : (a b x y : Bool) → a ≡ x → b ≡ y → (a && b) ≡ (x && y)
+both-of a b x y p q = rw (p, q)
+
 -- one of two or three tests, where the code holds the outcome of each
 pub either-of : (a b x y : Bool) → a ≡ x → b ≡ y → (a || b) ≡ (x || y)
 either-of a b x y p q = rw (p, q)

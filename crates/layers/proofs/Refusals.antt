@@ -33,6 +33,12 @@ module _ (x y : Answer ℕ) (good : Bool) (e : good ≡ isGood x) where
   left-fails (Good n) f q = absurd (true≢false (ap isGood q ∙ (sym e ∙ f)))
   left-fails (Refused n p) f q = rw (← q)
 
+-- what follows checks that pass
+pub passed : {A : Type 0} (x : Answer ℕ) (c : Answer A) → isGood x ≡ true → next x c ≡ c
+passed (given n) c e = refl
+passed nothing c e = absurd (false≢true e)
+passed (refused n p) c e = absurd (false≢true e)
+
 -- what follows the checks of two types
 pub next-next : {A B C : Type 0} (x : Answer A) (y : Answer B) (c : Answer C) → next (next x y) c ≡ next x (next y c)
 next-next (given v) y c = refl

@@ -17,9 +17,9 @@ use crate::runs::word;
 use changes::Change;
 use changes::choose;
 use columns::Symbol;
+use lone::update_lone;
 use lookups::get_among;
 use updates::Updated;
-use updates::update_lone;
 use ways::Operation;
 
 // The questions' numbers: the update, the operations on a table, get last.

@@ -9,6 +9,7 @@ use Rattle.layers.specs.Answer as paper
 use Rattle.layers.specs.Answer.{given, nothing, refused, next, truth}
 use Rattle.layers.specs.Check.{checkOf, isGood}
 use Rattle.layers.proofs.Decide.{both}
+use Rattle.layers.proofs.Refusals.{passed}
 use Rattle.questions.specs.Answers.{relates, relationAnswer, passes, coercionAnswer}
 use Rattle.questions.specs.declared.relate.Relation.{Relation}
 use Rattle.questions.specs.declared.coerce.Coercion.{Coercion}
@@ -44,15 +45,7 @@ pub no-told : (f : Bool) (r : Answer) → f ≡ false → r ≡ accepted 0 → r
 unfolding flat
 no-told f r e q = rw e q
 
-pub both-of : (a b x y : Bool) → a ≡ x → b ≡ y → (a && b) ≡ (x && y)
-both-of a b x y p q = rw (p, q)
-
 -- both are types: no refusal comes before what follows
-passed : (x t : paper.Answer ℕ) → isGood x ≡ true → next x t ≡ t
-passed (given n) t e = refl
-passed nothing t e = absurd (false≢true e)
-passed (refused n p) t e = absurd (false≢true e)
-
 module _ (a b : List ℕ) (g f : Bool) (r : Answer) (p : g ≡ (isGood (checkOf a) && isGood (checkOf b))) (h : g ≡ true) (q : r ≡ flat (truth f)) where
   follows : next (checkOf a) (next (checkOf b) (truth f)) ≡ truth f
   follows =

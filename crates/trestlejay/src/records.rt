@@ -9,7 +9,7 @@ use ways::Offer;
 use ways::Operation;
 ghost use mathlib.Core.Path.{_≡_};
 ghost use mathlib.Core.List.{[]};
-ghost use Rattle.updates.specs.Lone as rules;
+ghost use Rattle.lone.specs.Lone as rules;
 ghost use Rattle.changes.specs.Changes as changes;
 ghost use Rattle.lookups.specs.Gets as gets;
 
@@ -26,7 +26,7 @@ pub extern "C" fn tj_update_symbol(
         × (now (symbol .exit) ≡ rules.loneUpdated (now (symbol .entry)) (now (words .entry)) id authority place (now (offered .entry)) .symbol)
         × (now (words .exit) ≡ rules.loneWordsAfter (now (symbol .entry)) (now (words .entry)) authority (now (offered .entry))) ⌝ }
 {
-    updates::do_update_symbol(symbol, words, id, authority, place, offered)
+    lone::do_update_symbol(symbol, words, id, authority, place, offered)
 }
 
 #[no_mangle]

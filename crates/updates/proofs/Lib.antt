@@ -1,8 +1,6 @@
 -- What the proofs of several functions use.
 pub mod Choices
 pub mod Parts
-pub mod Alone
-pub mod Passing
 pub mod Outcomes
 pub mod Cases
 pub mod Theorems

@@ -15,7 +15,7 @@ pub struct Updated {
 }
 
 // The words of the stored type; no words where they are not there.
-pub(crate) fn stored(words: &[u64], layers: u64) -> &[u64]
+fn stored(words: &[u64], layers: u64) -> &[u64]
     ensures { λ r. ⌜ now r ≡ rules.storedOf layers (now (words .entry)) ⌝ }
 {
     if layers > (words.len() / 3) as u64 {

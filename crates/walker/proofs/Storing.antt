@@ -12,6 +12,7 @@ use lib.Seq.{take-all, take-nil, length-take-le, drop-drop}
 use borrow.Author.Tests.{lt-ltb, le-ltb, ltb-false, eq-eqb, ne-eqb, eqb-true}
 use Rattle.layers.specs.Layers.{layers}
 use Rattle.layers.specs.Answer.{given, refused}
+use Rattle.layers.proofs.Decide.{yes, both}
 use Rattle.layers.specs.Check.{checkOf, badLayer, misplaced, unless, isGood}
 use Rattle.columns.specs.Rows.{vacant, rowAt, readFrom, typed}
 use Rattle.columns.specs.Search.{slotIn, slotFor}
@@ -20,12 +21,7 @@ use Rattle.columns.specs.declared.symbol.Symbol.{Symbol}
 use Rattle.columns.proofs.Reading.{getD-read, length-read}
 use Rattle.columns.proofs.Searching.{slot-is}
 use Rattle.orders.proofs.Ordered.{ordered}
-use Rattle.walker.specs.Members.{wordsAt, memberWords, memberIn}
-use Rattle.walker.specs.Moves.{Whole}
-
-both : (u v : Bool) → (u && v) ≡ true → (u ≡ true) × (v ≡ true)
-both true v e = (refl, e)
-both false v e = absurd (false≢true e)
+use Rattle.walker.specs.Members.{wordsAt, memberWords, memberIn, askedIn, Whole}
 
 -- the part of a run from a word on, as the code takes it
 abbrev part : List ℕ → ℕ → List ℕ
@@ -81,6 +77,16 @@ module _ (ws store : List ℕ) (n id : ℕ) where
       pub is-typed : (r : List ℕ) → getD ws (k + 384) 0 ≡ 1 → r ≡ take (getD ws (k + 512) 0 * 3) (drop (k * 48) store) → r ≡ memberIn ws n store id
       unfolding rowAt
       is-typed r f g = g ∙ sym (here ∙ rw (eq-eqb (getD ws (k + 384) 0) 1 f))
+
+-- the member's words, by the step's kind
+module _ (ws store : List ℕ) (n s id : ℕ) where
+  pub is-asked : (r : List ℕ) → s ≡ 1 → r ≡ memberIn ws n store id → r ≡ askedIn ws n store s id
+  unfolding askedIn
+  is-asked r e q = yes _ r _ _ (eq-eqb s 1 e) q
+
+  pub not-asked : (s ≡ 1 → ⊥) → take 0 store ≡ askedIn ws n store s id
+  unfolding askedIn
+  not-asked e = rw (ne-eqb s 1 e)
 
 -- a typed record's words pass
 pass-at : (table : List Symbol) (store : List ℕ) (k : ℕ) → allPass table store ≡ true →

@@ -1,12 +1,5 @@
-// The plain walker: what one step does, and nothing of rounds, targets or settling.
+// The plain walker knows what one step does; of its functions here are those that tell a member's type.
 mod members;
-mod moves;
 
 pub use members::asked_member;
 pub use members::member;
-pub use moves::Move;
-pub use moves::go;
-pub use moves::is_desliced;
-pub use moves::is_stuck;
-pub use moves::kind_of;
-pub use moves::move_of;

@@ -17,7 +17,8 @@ use Rattle.buffers.specs.Written.{written}
 use Rattle.buffers.proofs.Writing.{fits, too-short, front-first, length-written}
 use Rattle.answers.specs.Flat.{accepted, notAccepted, flat}
 use Rattle.answers.specs.declared.flat.Answer.{Answer}
-use Rattle.walker.specs.Moves.{seen, Whole, Current}
+use Rattle.walker.specs.Members.{Whole}
+use Rattle.moves.specs.Moves.{seen, Current}
 use Rattle.walks.specs.Walked.{arrived, delivered, over}
 
 -- a layer over the first words

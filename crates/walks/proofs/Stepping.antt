@@ -27,11 +27,11 @@ use Rattle.steps.specs.Steps.{steps, stepsAnswer}
 use Rattle.steps.proofs.Words.{steps-none}
 use Rattle.steps.proofs.Passing.{here, at-word, steps-whole}
 use Rattle.walker.specs.Walker.{at, Stored}
-use Rattle.walker.specs.Members.{memberIn, askedIn, ofLayers, members}
-use Rattle.walker.specs.Moves.{moveOf, seen, onward, desliced, sticks, moved, Whole, Current}
-use Rattle.walker.specs.declared.moves.Move.{Move}
+use Rattle.walker.specs.Members.{memberIn, askedIn, ofLayers, members, Whole}
+use Rattle.moves.specs.Moves.{moveOf, seen, onward, desliced, sticks, moved, Current}
+use Rattle.moves.specs.declared.motion.Move.{Move}
 use Rattle.walker.proofs.Storing.{at-most, good-whole, member-whole}
-use Rattle.walker.proofs.Acting.{acts, moves-on}
+use Rattle.moves.proofs.Acting.{acts, moves-on}
 use Rattle.walks.specs.Walked.{unlessStuck, walkedFrom, arrived, walkFrom, walkOrdered, walkTo, delivered, over}
 use Rattle.walks.proofs.Arriving.{Tells}
 

@@ -11,7 +11,7 @@ ghost use lib.ListN.{length};
 ghost use Rattle.layers.specs.Layers.{spelled};
 ghost use Rattle.buffers.specs.Written.{written};
 ghost use Rattle.answers.specs.Flat.{flat};
-ghost use Rattle.walker.specs.Moves.{seen, Current};
+ghost use Rattle.moves.specs.Moves.{seen, Current};
 ghost use Rattle.walks.specs.Walked as rules;
 
 // Writes a layer that has neither name nor number over the first three words, if there are three.

@@ -2,7 +2,7 @@ use borrow.Author.Needs.{needs}
 use mathlib.Core.Path.{ap}
 use Rattle.layers.specs.Answer.{given}
 use Rattle.externs.specs.Outcome.{delivered}
-use Rattle.externs.proofs.Fixes.{carried, whole-inside, as-slice, as-view, as-slice-pointer, as-it-is}
+use Rattle.externs.proofs.Fixes.{carried, whole-behind, with-front, as-it-is}
 use Rattle.externs.proofs.flags.fix_plain.Statement.{statement}
 use Rattle.externs.proofs.flags.fix_plain.Tie as tie
 
@@ -13,37 +13,25 @@ fix-plain-spec =
     (λ c κs. search needs)
     (λ c κs. search needs)
     (λ c κs. search needs)
-    (λ c. search needs)
-    (λ c κs. search (needs, whole-inside))
-    (λ c. search needs)
-    (λ c.
-    let i = c .before .before .before .before .before .before in
-    carried _ _ _ _ _ (ap (delivered _) (ap given (as-slice _ _ _ (i .before .before .outer .ensures) _ _ (c .before .before .before .before .before .slice .ensures) (i .before .inner .ensures) (i .if1 .taken)))) (c .before .before .write-type .ensures))
     (λ c κs. search needs)
     (λ c κs. search needs)
     (λ c. search needs)
     (λ c κs. search needs)
     (λ c. search needs)
     (λ c.
-    let j = c .before .before .before .before .before .before in
-    let i = j .before .before in
-    carried _ _ _ _ _ (ap (delivered _) (ap given (as-view _ _ _ (i .before .before .outer .ensures) (i .if1 .left) _ (j .before .is-viewed .ensures) _ (c .before .before .before .before .before .view .ensures) (j .if2 .taken)))) (c .before .before .write-type2 .ensures))
-    (λ c κs. search needs)
-    (λ c κs. search needs)
+    let i = c .before .before .before .before .before in
+    let f = i .before in
+    let v = f .before in
+    let h = v .before in
+    carried _ _ _ _ _ (ap (delivered _) (ap given (as-it-is _ _ _ _ _ _ _ (h .before .before .outer .ensures) (h .before .inner .ensures) (h .outer2 .ensures) (v .is-viewed .ensures) (f .front-of .ensures) (i .if1 .taken)))) (c .before .before .write-type .ensures))
     (λ c. search needs)
     (λ c κs. search needs)
-    (λ c κs. search (needs, whole-inside))
-    (λ c. search needs)
-    (λ c.
-    let l = c .before .before .before .before .before .before .before in
-    let j = l .before .before in
-    let i = j .before .before in
-    carried _ _ _ _ _ (ap (delivered _) (ap given (as-slice-pointer _ _ _ (i .before .before .outer .ensures) (i .if1 .left) _ (j .before .is-viewed .ensures) (j .if2 .left) _ (i .before .inner .ensures) _ (l .before .outer2 .ensures) _ _ (c .before .before .before .before .before .before .slice-pointer .ensures) (c .before .before .before .inner2 .ensures) (l .if3 .taken)))) (c .before .before .write-type3 .ensures))
-    (λ c. search needs)
-    (λ c κs. search needs)
+    (λ c κs. search (needs, whole-behind))
     (λ c. search needs)
     (λ c.
-    let l = c .before .before .before .before .before in
-    let j = l .before .before in
-    let i = j .before .before in
-    carried _ _ _ _ _ (ap (delivered _) (ap given (as-it-is _ _ _ (i .before .before .outer .ensures) (i .if1 .left) _ (j .before .is-viewed .ensures) (j .if2 .left) _ (i .before .inner .ensures) _ (l .before .outer2 .ensures) (l .if3 .left)))) (c .before .before .write-type4 .ensures)))
+    let b = c .before .before .before in
+    let i = b .before .before .before in
+    let f = i .before in
+    let v = f .before in
+    let h = v .before in
+    carried _ _ _ _ _ (ap (delivered _) (ap given (with-front _ _ _ _ _ _ _ (h .before .before .outer .ensures) (h .before .inner .ensures) (h .outer2 .ensures) (v .is-viewed .ensures) (f .front-of .ensures) _ (i .if1 .left) (b .behind .ensures)))) (c .before .before .write-type2 .ensures)))

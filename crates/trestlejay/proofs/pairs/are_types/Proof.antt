@@ -1,5 +1,5 @@
 use borrow.Author.Needs.{needs}
-use Rattle.trestlejay.proofs.Told.{both-of}
+use Rattle.layers.proofs.Decide.{both-of}
 use Rattle.trestlejay.proofs.pairs.are_types.Statement.{statement}
 use Rattle.trestlejay.proofs.pairs.are_types.Tie as tie
 

@@ -1,4 +1,4 @@
--- `tj_update_symbol` only calls `do_update_symbol` of the crate `updates`.
+-- `tj_update_symbol` only calls `do_update_symbol` of the crate `lone`.
 -- Assumes nothing.
 use mathlib.Core.Path.{refl}
 use mathlib.Core.List.{[], _∷_}
@@ -31,8 +31,8 @@ use denote.Triple.Table.{entered, cited}
 use Rattle.columns.proofs.symbol.Symbol as T
 use Rattle.answers.proofs.flat.Answer as R
 use Rattle.answers.proofs.flat.Answer.Laws as R′
-use Rattle.updates.proofs.do_update_symbol.Symbol as callee
-use Rattle.updates.proofs.do_update_symbol.Met as callee-thm
+use Rattle.lone.proofs.do_update_symbol.Symbol as callee
+use Rattle.lone.proofs.do_update_symbol.Met as callee-thm
 use Rattle.tables.proofs.Pass.{Promised, spelt, at-spelt, answered, handed-out}
 use Rattle.trestlejay.proofs.records.tj_update_symbol.Key as key
 use Rattle.trestlejay.proofs.records.tj_update_symbol as f

@@ -1,4 +1,4 @@
-use Rattle.walker.proofs.Acting.{is-asked, not-asked}
+use Rattle.walker.proofs.Storing.{is-asked, not-asked}
 use borrow.Author.Needs.{needs}
 use Rattle.walker.proofs.members.asked_member.Statement.{statement}
 use Rattle.walker.proofs.members.asked_member.Tie as tie

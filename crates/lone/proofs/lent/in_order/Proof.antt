@@ -1,0 +1,17 @@
+use borrow.Author.Needs.{needs}
+use Rattle.lone.proofs.Alone.{miscounted, poisoned-fits, not-taken, too-many, in-words, typed-fits}
+use Rattle.lone.proofs.lent.in_order.Statement.{statement}
+use Rattle.lone.proofs.lent.in_order.Tie as tie
+
+pub in-order-spec : {M : Type 1} → statement M
+in-order-spec =
+    tie.close
+    (tie.spec
+    (λ c. search miscounted)
+    (λ c. search poisoned-fits)
+    (λ c. search not-taken)
+    (λ c. search too-many)
+    (λ c. search needs)
+    (λ c. search in-words)
+    (λ c κs. search needs)
+    (λ c. search typed-fits))

@@ -1,0 +1,77 @@
+use answers::Answer;
+use answers::checked;
+use answers::refused;
+use columns::Symbol;
+use layers::check_type;
+use layers::is_type;
+use updates::Updated;
+use updates::update;
+ghost use mathlib.Core.Path.{_≡_};
+ghost use Rattle.lone.specs.Lone as rules;
+
+// Whether a taken record with its words is a table of one that is in order.
+fn in_order(s: Symbol, words: &[u64]) -> bool
+    ensures { λ r. ⌜ r ≡ rules.loneInOrder s (now (words .entry)) ⌝ }
+{
+    if words.len() != 48 {
+        return false;
+    }
+    let state = s.state;
+    let n = s.layers;
+    if state == 2 {
+        return true;
+    }
+    if state != 1 {
+        return false;
+    }
+    if n > 16 {
+        return false;
+    }
+    is_type(&words[..n as usize * 3])
+}
+
+// Updates a record that stands alone, with its 48 words.
+pub fn update_lone(
+    s: Symbol,
+    words: &mut [u64],
+    id: u32,
+    authority: bool,
+    place: u64,
+    offered: &[u64],
+) -> Updated
+    ensures { λ r. ⌜ (r ≡ rules.loneUpdated s (now (words .entry)) id authority place (now (offered .entry)))
+        × (now (words .exit) ≡ rules.loneWordsAfter s (now (words .entry)) authority (now (offered .entry))) ⌝ }
+{
+    if !is_type(offered) {
+        return Updated {
+            symbol: s,
+            answer: checked(check_type(offered)),
+        };
+    }
+    if !in_order(s, words) {
+        return Updated {
+            symbol: s,
+            answer: refused(12, 0),
+        };
+    }
+    update(s, words, id, authority, place, offered)
+}
+
+// The same, of a symbol that is lent.
+pub fn do_update_symbol(
+    symbol: &mut Symbol,
+    words: &mut [u64],
+    id: u32,
+    authority: bool,
+    place: u64,
+    offered: &[u64],
+) -> Answer
+    ensures { λ r. ⌜ (r ≡ rules.loneUpdated (now (symbol .entry)) (now (words .entry)) id authority place (now (offered .entry)) .answer)
+        × (now (symbol .exit) ≡ rules.loneUpdated (now (symbol .entry)) (now (words .entry)) id authority place (now (offered .entry)) .symbol)
+        × (now (words .exit) ≡ rules.loneWordsAfter (now (symbol .entry)) (now (words .entry)) authority (now (offered .entry))) ⌝ }
+{
+    let s = *symbol;
+    let u = update_lone(s, words, id, authority, place, offered);
+    *symbol = u.symbol;
+    u.answer
+}

@@ -1,0 +1,24 @@
+use Rattle.moves.specs.Moves.{onward}
+use Rattle.moves.proofs.Acting.{leads, leads-in}
+use borrow.Author.Needs.{needs}
+use Rattle.moves.proofs.motion.go.Statement.{statement}
+use Rattle.moves.proofs.motion.go.Tie as tie
+
+pub go-spec : {M : Type 1} → statement M
+unfolding onward
+go-spec =
+    tie.close
+    (tie.spec
+    (λ c. search needs)
+    (λ c. search needs)
+    (λ c κs. search needs)
+    (λ c. search needs)
+    (λ c κs. search needs)
+    (λ c κs. search needs)
+    (λ c. search needs)
+    (λ c. search needs)
+    (λ c. search leads)
+    (λ c. search leads)
+    (λ c. search leads-in)
+    (λ c. search leads)
+    (λ c. search leads))
