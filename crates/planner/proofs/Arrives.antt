@@ -14,8 +14,10 @@ use Rattle.steps.specs.Steps.{Step}
 use Rattle.turns.specs.Settling.{Settled, settle}
 use Rattle.layers.proofs.Given.{not-given, nothing-given, given-is}
 use Rattle.walker.specs.Walker.{Stored, typed, arrives}
-use Rattle.planner.specs.Walk.{Walk, ended, stopped, walk}
-use Rattle.planner.specs.Plan.{Plan, withSettling, settleWalk, planOf}
+use Rattle.rounds.specs.Walk.{Walk, ended, stopped, walk}
+use Rattle.endings.specs.Plan.{Plan}
+use Rattle.rounds.specs.Walked.{withSettling, settleWalk}
+use Rattle.planner.specs.Plan.{planOf}
 use Rattle.planner.specs.Demand.{Hidden, Demand}
 use Rattle.planner.proofs.Walks.{asked-append, walker-append, walks, in-order, all-taken}
 use Rattle.layers.proofs.Accepted.{goodLayers}

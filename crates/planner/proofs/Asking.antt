@@ -3,7 +3,8 @@
 use mathlib.Core.Path.{_≡_, refl, sym, ap, _∙_}
 use mathlib.Core.Bool.{Bool, true, false, cond, not}
 use mathlib.Core.List.{List}
-use Prim.Native.Nat.{ℕ, _/_, _≤_, _<_}
+use Prim.Native.Nat.{ℕ, _/_, _≤_, _<_, _^_}
+use native.Mathlib.Omega.{arith}
 use lib.Dec.{ltb}
 use lib.ListN.{length}
 use borrow.Author.Tests.{lt-ltb, le-ltb, ltb-false, not-true, not-false}
@@ -25,12 +26,12 @@ use Rattle.orders.proofs.Ordered.{ordered, too-long}
 use Rattle.steps.specs.Steps.{stepsAnswer}
 use Rattle.walker.specs.Members.{memberIn, ofLayers, members}
 use Rattle.walker.proofs.Storing.{at-most, member-whole}
-use Rattle.planner.specs.Plan.{Plan, planOf}
-use Rattle.planner.specs.Report.{delivered, notGiven, told, stepsOver, typeOver}
-use Rattle.planner.specs.declared.report.Report.{Report}
-use Rattle.planner.specs.Finish.{AllWhole, walked}
+use Rattle.endings.specs.Plan.{Plan}
+use Rattle.planner.specs.Plan.{planOf}
+use Rattle.endings.specs.Report.{delivered, notGiven, told, stepsOver, typeOver}
+use Rattle.endings.specs.declared.report.Report.{Report}
+use Rattle.rounds.specs.Walked.{AllWhole, walked}
 use Rattle.planner.specs.Answers.{limits, question, planned, planAnswer}
-use Rattle.planner.proofs.Delivering.{Told, refuses}
 
 -- the limits
 pub over : (asked : List ℕ) (rounds : ℕ) → 64 < rounds → refused 5 0 ≡ limits asked rounds
@@ -39,27 +40,41 @@ over asked rounds h = rw (lt-ltb 64 rounds h)
 pub within : (asked : List ℕ) (rounds : ℕ) (r : Answer ℕ) → rounds ≤ 64 → r ≡ stepsAnswer 32 asked → r ≡ limits asked rounds
 within asked rounds r h e = rw (le-ltb 64 rounds h) e
 
--- a table given by its columns
-module _ (ws : List ℕ) (n : ℕ) (store known asked target : List ℕ) (level rounds : ℕ) (s t : List ℕ) (b : Bool) (e : b ≡ inOrder (readFrom ws 0 n) store) where
-  abbrev outcome : Answer Plan
-  outcome = planned (readFrom ws 0 n) store known asked target level rounds (length s) (length t)
+-- an outcome that is a refusal
+module _ (n p : ℕ) (outcome : Answer Plan) (e : outcome ≡ refused n p) where
+  pub told-refused : (r : Report) → r ≡ notGiven n p → r ≡ told outcome
+  unfolding told
+  told-refused r i = rw e i
 
-  pub out-of-order : not b ≡ true → Told outcome (notGiven 12 0) s s t t
+  pub steps-stay : (s : List ℕ) → s ≡ stepsOver outcome s
+  unfolding stepsOver
+  steps-stay s = rw e refl
+
+  pub type-stays : (t : List ℕ) → t ≡ typeOver outcome t
+  unfolding typeOver
+  type-stays t = rw e refl
+
+-- a table given by its columns
+module _ (ws : List ℕ) (n : ℕ) (store known asked target : List ℕ) (level rounds room wide : ℕ) (b : Bool) (e : b ≡ inOrder (readFrom ws 0 n) store) where
+  abbrev outcome : Answer Plan
+  outcome = planned (readFrom ws 0 n) store known asked target level rounds room wide
+
+  pub out-of-order : not b ≡ true → outcome ≡ refused 12 0
   unfolding planned
-  out-of-order h = refuses outcome 12 0 s t (rw (← e, not-true b h))
+  out-of-order h = rw (← e, not-true b h)
 
   module _ (h : not b ≡ false) (f : Bool) (p : f ≡ wellFormed (layers known)) where
     ok : inOrder (readFrom ws 0 n) store ≡ true
     ok = sym e ∙ not-false b h
 
-    pub known-ill-formed : not f ≡ true → Told outcome (notGiven 4 0) s s t t
+    pub known-ill-formed : not f ≡ true → outcome ≡ refused 4 0
     unfolding planned planOf delivered
-    known-ill-formed g = refuses outcome 4 0 s t (rw (ok, ← p, not-true f g))
+    known-ill-formed g = rw (ok, ← p, not-true f g)
 
     module _ (g : not f ≡ false) (u : Bool) (q : u ≡ wellFormed (layers target)) where
-      pub target-ill-formed : not u ≡ true → Told outcome (notGiven 4 0) s s t t
+      pub target-ill-formed : not u ≡ true → outcome ≡ refused 4 0
       unfolding planned planOf delivered
-      target-ill-formed i = refuses outcome 4 0 s t (rw (ok, ← p, not-false f g, ← q, not-true u i))
+      target-ill-formed i = rw (ok, ← p, not-false f g, ← q, not-true u i)
 
       few : n ≤ 128
       few = rw (length-read ws 0 n) at (ordered (readFrom ws 0 n) store ok .few)
@@ -68,14 +83,33 @@ module _ (ws : List ℕ) (n : ℕ) (store known asked target : List ℕ) (level 
       unfolding members
       same-members = λ i id. ofLayers (layers (at-most ws store n id few i))
 
-      pub all-whole : AllWhole (memberIn ws n store)
-      all-whole id =
-          let w = member-whole (readFrom ws 0 n) store id ok in
-          rw (at-most ws store n id few) (record { whole = w .1; few = w .0 })
+      module _ (i : not u ≡ false) where
+        abbrev walk : Answer Plan
+        walk = walked (memberIn ws n store) known asked target level rounds room wide
 
-      pub planned-so : not u ≡ false → walked (memberIn ws n store) known asked target level rounds (length s) (length t) ≡ outcome
-      unfolding planned planOf walked
-      planned-so i = rw (ok, ← p, not-false f g, ← q, not-false u i, same-members) refl
+        planned-so : walk ≡ outcome
+        unfolding planned planOf walked
+        planned-so = rw (ok, ← p, not-false f g, ← q, not-false u i, same-members) refl
+
+        pub told-walked : (r : Report) → r ≡ told walk → r ≡ told outcome
+        told-walked r e = e ∙ ap told planned-so
+
+        pub steps-walked : (s after : List ℕ) → after ≡ stepsOver walk s → after ≡ stepsOver outcome s
+        steps-walked s after e = e ∙ ap (λ (a : Answer Plan). stepsOver a s) planned-so
+
+        pub type-walked : (s after : List ℕ) → after ≡ typeOver walk s → after ≡ typeOver outcome s
+        type-walked s after e = e ∙ ap (λ (a : Answer Plan). typeOver a s) planned-so
+
+-- the members of a table in order
+pub all-whole : (ws : List ℕ) (n : ℕ) (store : List ℕ) (b : Bool) → b ≡ inOrder (readFrom ws 0 n) store → not b ≡ false → AllWhole (memberIn ws n store)
+all-whole ws n store b e h id =
+    let ok : inOrder (readFrom ws 0 n) store ≡ true = sym e ∙ not-false b h in
+    let few : n ≤ 128 = rw (length-read ws 0 n) at (ordered (readFrom ws 0 n) store ok .few) in
+    let w = member-whole (readFrom ws 0 n) store id ok in
+    rw (at-most ws store n id few) (record { whole = w .1; few = w .0 })
+
+pub byte : (n : ℕ) → n < 2 ^ 8 → n ≤ 255
+byte n h = omega arith
 
 -- a question that passed its checks
 pub passed : {A : Type 0} (ws : List ℕ) (c : Answer A) (i : A) → next (checkOf ws) c ≡ given i → (checkOf ws ≡ given (length ws / 3)) × (c ≡ given i)
@@ -110,9 +144,9 @@ module _ (known asked target : List ℕ) (rounds : ℕ) (x : Checked) (i : ℕ) 
       by-limit false p q = ltb-false 64 rounds p
 
 -- the answer to a question, by what its checks said
-module _ (table : List Symbol) (store known asked target : List ℕ) (level rounds : ℕ) (s t : List ℕ) (x : Checked) (e : ofChecked x ≡ question known asked target rounds) where
+module _ (table : List Symbol) (store known asked target : List ℕ) (level rounds room wide : ℕ) (x : Checked) (e : ofChecked x ≡ question known asked target rounds) where
   abbrev whole : Answer Plan
-  whole = planAnswer table store known asked target level rounds (length s) (length t)
+  whole = planAnswer table store known asked target level rounds room wide
 
   module _ (n p : ℕ) (h : x ≡ Refused n p) where
     question-refused : whole ≡ refused n p
@@ -120,20 +154,17 @@ module _ (table : List Symbol) (store known asked target : List ℕ) (level roun
     question-refused = rw (← e, h) refl
 
     pub answer-refused : (r : Report) → r ≡ notGiven n p → r ≡ told whole
-    unfolding told
-    answer-refused r i = rw question-refused i
+    answer-refused r i = told-refused n p whole question-refused r i
 
-    pub steps-refused : s ≡ stepsOver whole s
-    unfolding stepsOver
-    steps-refused = rw question-refused refl
+    pub steps-refused : (s : List ℕ) → s ≡ stepsOver whole s
+    steps-refused s = steps-stay n p whole question-refused s
 
-    pub type-refused : t ≡ typeOver whole t
-    unfolding typeOver
-    type-refused = rw question-refused refl
+    pub type-refused : (t : List ℕ) → t ≡ typeOver whole t
+    type-refused t = type-stays n p whole question-refused t
 
   module _ (i : ℕ) (h : x ≡ Good i) where
     abbrev rest : Answer Plan
-    rest = planned table store known asked target level rounds (length s) (length t)
+    rest = planned table store known asked target level rounds room wide
 
     question-passed : rest ≡ whole
     unfolding planAnswer
@@ -142,11 +173,11 @@ module _ (table : List Symbol) (store known asked target : List ℕ) (level roun
     pub answer-passed : (r : Report) → r ≡ told rest → r ≡ told whole
     answer-passed r q = q ∙ ap told question-passed
 
-    pub steps-passed : (after : List ℕ) → after ≡ stepsOver rest s → after ≡ stepsOver whole s
-    steps-passed after q = q ∙ ap (λ (a : Answer Plan). stepsOver a s) question-passed
+    pub steps-passed : (s after : List ℕ) → after ≡ stepsOver rest s → after ≡ stepsOver whole s
+    steps-passed s after q = q ∙ ap (λ (a : Answer Plan). stepsOver a s) question-passed
 
-    pub type-passed : (after : List ℕ) → after ≡ typeOver rest t → after ≡ typeOver whole t
-    type-passed after q = q ∙ ap (λ (a : Answer Plan). typeOver a t) question-passed
+    pub type-passed : (t after : List ℕ) → after ≡ typeOver rest t → after ≡ typeOver whole t
+    type-passed t after q = q ∙ ap (λ (a : Answer Plan). typeOver a t) question-passed
 
 -- from the columns to the table
 module _ (store known asked target : List ℕ) (level rounds room wide : ℕ) (table : List Symbol) where

@@ -15,20 +15,9 @@ use Rattle.turns.specs.declared.turn.Turn.{Turn}
 use Rattle.layers.proofs.Given.{not-given, given-is}
 use Rattle.turns.proofs.Cases.{cases}
 use Rattle.walker.specs.Walker.{at, Stored, typed, absent, act, walker}
-use Rattle.planner.specs.Walk.{stepsOf, takenBy, memberType, goes, turnOf}
+use Rattle.rounds.proofs.Going.{one-in, two-in}
+use Rattle.rounds.specs.Walk.{stepsOf, takenBy, memberType, goes, turnOf}
 use Rattle.planner.specs.Demand.{asked, unmarked, rounds}
-
--- the layers inside
-pub one-in : (t : List Layer) → drop 1 t ≡ inside t
-unfolding inside
-one-in [] = refl
-one-in (x ∷ t) = refl
-
-pub two-in : (t : List Layer) → drop 2 t ≡ inside (inside t)
-unfolding inside
-two-in [] = refl
-two-in (x ∷ []) = refl
-two-in (x ∷ y ∷ t) = refl
 
 pub reached : (m : Stored) (u : List Layer) → memberType m ≡ given u → m ≡ typed u
 reached absent u g = absurd (not-given 11 0 u g)

@@ -4,14 +4,6 @@ pub mod Walks
 pub mod Sound
 pub mod Settles
 pub mod Arrives
-pub mod Going
-pub mod Reading
-pub mod Pushing
-pub mod Delivering
-pub mod Endings
-pub mod Finishing
-pub mod Turning
-pub mod Outcomes
 pub mod Asking
 pub mod Answered
 pub mod Carried

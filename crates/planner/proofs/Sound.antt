@@ -18,8 +18,9 @@ use Rattle.steps.specs.Steps.{Step}
 use Rattle.layers.proofs.Given.{not-given, given-is}
 use Rattle.turns.proofs.Cases.{cases}
 use Rattle.walker.specs.Walker.{Stored, typed, absent}
-use Rattle.planner.specs.Walk.{ended, goes, turnOf, memberType, walk}
-use Rattle.planner.proofs.Leads.{reached, one-in, two-in}
+use Rattle.rounds.specs.Walk.{ended, goes, turnOf, memberType, walk}
+use Rattle.planner.proofs.Leads.{reached}
+use Rattle.rounds.proofs.Going.{one-in, two-in}
 use Rattle.planner.proofs.Walks.{every-walk}
 
 -- a type of good layers that is well formed

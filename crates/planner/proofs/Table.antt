@@ -18,8 +18,9 @@ use Rattle.steps.specs.Steps.{Step, step}
 use Rattle.turns.specs.Turns.{turn}
 use Rattle.turns.specs.Settling.{settleOtherwise, settle}
 use Rattle.walker.specs.Walker.{absent}
-use Rattle.planner.specs.Walk.{walk}
-use Rattle.planner.specs.Plan.{Plan, planOf}
+use Rattle.rounds.specs.Walk.{walk}
+use Rattle.endings.specs.Plan.{Plan}
+use Rattle.planner.specs.Plan.{planOf}
 
 abbrev pub leaf : ℕ → List Layer
 leaf k = layer k 0 0 ∷ []

@@ -17,7 +17,7 @@ use Rattle.steps.specs.Steps.{Step}
 use Rattle.turns.specs.declared.turn.Turn.{Turn}
 use Rattle.turns.specs.declared.turn.Turn.the-variants.{Stuck, Auto, Element, Desliced, Member}
 use Rattle.walker.specs.Walker.{Where, at, stuck, Stored, act, then, walker}
-use Rattle.planner.specs.Walk.{Walk, ended, stopped, stepsOf, takenBy, goes, turnOf, prepend, onward, walk}
+use Rattle.rounds.specs.Walk.{Walk, ended, stopped, stepsOf, takenBy, goes, turnOf, prepend, onward, walk}
 use Rattle.planner.specs.Demand.{asked, unmarked, rounds}
 use Rattle.planner.proofs.Leads.{leads, takes, turns-once}
 

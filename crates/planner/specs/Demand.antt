@@ -14,8 +14,8 @@ use Rattle.steps.specs.StepKind as of-step
 use Rattle.steps.specs.Steps.{Step, step}
 use Rattle.turns.specs.Settling.{settle, settleOtherwise}
 use Rattle.walker.specs.Walker.{at, Stored, walker, arrives}
-use Rattle.planner.specs.Walk.{Walk, ended, stopped, walk}
-use Rattle.planner.specs.Plan.{Plan}
+use Rattle.rounds.specs.Walk.{Walk, ended, stopped, walk}
+use Rattle.endings.specs.Plan.{Plan}
 
 -- "an element's endless mark aside"
 abbrev pub unmarked : Step → Step

@@ -1,10 +1,10 @@
-use crate::deliver::refuse;
-use crate::report::Report;
-use crate::walk::walk;
+use endings::Report;
+use endings::refuse;
 use forms::is_wellformed;
 use layers::Checked;
 use layers::check_type;
 use orders::in_order;
+use rounds::walk_asked;
 use steps::check_steps;
 ghost use mathlib.Core.Path.{_≡_};
 ghost use Prim.Native.Nat.{_≤_};
@@ -12,7 +12,7 @@ ghost use lib.ListN.{length};
 ghost use Rattle.layers.specs.Answer.{ofChecked};
 ghost use Rattle.layers.proofs.Accepted.{Whole};
 ghost use Rattle.columns.specs.Rows.{readFrom};
-ghost use Rattle.planner.specs.Report as report;
+ghost use Rattle.endings.specs.Report as report;
 ghost use Rattle.planner.specs.Answers as answers;
 
 // The most asked steps, and the most rounds.
@@ -72,8 +72,7 @@ fn plan_checked<'a>(
     if !is_wellformed(target) {
         return refuse(4, 0);
     }
-    let mut buf = [0u64; 576];
-    walk(
+    walk_asked(
         flat,
         count,
         store,
@@ -82,7 +81,6 @@ fn plan_checked<'a>(
         target,
         level as u64,
         rounds,
-        &mut buf,
         steps,
         ty,
     )

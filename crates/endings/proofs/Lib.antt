@@ -1,0 +1,4 @@
+-- What the proofs of several functions use.
+pub mod Delivering
+pub mod Numbers
+pub mod Single

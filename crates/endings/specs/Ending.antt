@@ -1,0 +1,52 @@
+-- What a settling adds to a walk, in numbers.
+use mathlib.Core.Bool.{Bool, true, false}
+use mathlib.Core.List.{List, _++_}
+use Prim.Native.Nat.{ℕ, _-_}
+use lib.ListN.{replicate}
+use Rattle.layers.specs.Layers.{layers}
+use Rattle.layers.specs.Answer.{Answer}
+use Rattle.parts.specs.Parts.{fullyDereferenced}
+use Rattle.steps.specs.StepKind as of-step
+use Rattle.steps.specs.Steps.{steps}
+use Rattle.turns.specs.Settling.{pointer}
+use Rattle.turns.specs.declared.settlement.Settling.{Settling}
+use Rattle.turns.specs.declared.settlement.Settling.the-variants as settling
+use Rattle.endings.specs.Plan.{Plan, narrow}
+use Rattle.endings.specs.declared.ending.Ending.{Ending}
+
+-- "p-n Autoderefs"
+abbrev pub unwound : ℕ → ℕ → ℕ
+unwound p n = p - n
+
+abbrev pub given : ℕ → ℕ → ℕ → Bool → Bool → Ending
+given extra kind lead address coerced =
+    record { refused = false; number = 0; extra = extra; kind = kind; lead = lead; address = address; coerced = coerced }
+
+abbrev pub refused : ℕ → Ending
+refused number = record { refused = true; number = number; extra = 0; kind = 0; lead = 0; address = false; coerced = false }
+
+abbrev pub endingOf : Settling → ℕ → ℕ → Ending
+endingOf (settling.Kept b) p n = given 0 of-step.autoderef 0 false b
+endingOf settling.Viewed p n = given 1 of-step.autoview 0 false false
+endingOf (settling.Addressed b) p n = given 0 of-step.autoderef 1 true b
+endingOf settling.Dereferenced p n = given (unwound p n) of-step.autoderef n false false
+endingOf (settling.Refused k) p n = refused k
+
+-- The words of the reported type after its Pointers, of the current type's and the target's.
+abbrev pub bodyOf : Settling → List ℕ → List ℕ → List ℕ
+bodyOf (settling.Kept b) c t = c
+bodyOf settling.Viewed c t = t
+bodyOf (settling.Addressed b) c t = c
+bodyOf settling.Dereferenced c t = fullyDereferenced c
+bodyOf (settling.Refused k) c t = c
+
+-- The plan of the steps that stand in words, and of the body under its Pointers.
+unfoldable pub planned : List ℕ → ℕ → Ending → List ℕ → Answer Plan
+planned ws taken e body =
+    narrow (record {
+      steps = steps ws;
+      taken = taken;
+      type = replicate (e .lead) pointer ++ layers body;
+      address = e .address;
+      coerced = e .coerced;
+    })

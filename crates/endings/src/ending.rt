@@ -1,0 +1,143 @@
+use kinds::Kind;
+use parts::fully_dereferenced;
+use steps::StepKind;
+use turns::Settling;
+ghost use mathlib.Core.Path.{_≡_};
+ghost use lib.ListN.{replicate};
+ghost use Rattle.layers.specs.Layers.{spelled};
+ghost use Rattle.turns.specs.Settling.{pointer};
+ghost use Rattle.endings.specs.Ending as ending;
+
+// What a settling adds, in numbers: so many steps of a kind, so many Pointers before the body of the reported type.
+pub struct Ending {
+    pub refused: bool,
+    pub number: u64,
+    pub extra: u64,
+    pub kind: u64,
+    pub lead: u64,
+    pub address: bool,
+    pub coerced: bool,
+}
+
+fn unwound(p: u64, depth: u64) -> u64
+    ensures { λ r. ⌜ r ≡ ending.unwound p depth ⌝ }
+{
+    if depth <= p { p - depth } else { 0 }
+}
+
+fn given(extra: u64, kind: u64, lead: u64, address: bool, coerced: bool) -> Ending
+    ensures { λ r. ⌜ r ≡ ending.given extra kind lead address coerced ⌝ }
+{
+    Ending {
+        refused: false,
+        number: 0,
+        extra,
+        kind,
+        lead,
+        address,
+        coerced,
+    }
+}
+
+fn refused(number: u64) -> Ending
+    ensures { λ r. ⌜ r ≡ ending.refused number ⌝ }
+{
+    Ending {
+        refused: true,
+        number,
+        extra: 0,
+        kind: 0,
+        lead: 0,
+        address: false,
+        coerced: false,
+    }
+}
+
+// Of a current type of the pointer depth p.
+pub fn ending_of(s: Settling, p: u64, depth: u64) -> Ending
+    ensures { λ r. ⌜ r ≡ ending.endingOf s p depth ⌝ }
+{
+    match s {
+        Settling::Kept(coerced) => given(0, StepKind::AUTODEREF, 0, false, coerced),
+        Settling::Viewed => given(1, StepKind::AUTOVIEW, 0, false, false),
+        Settling::Addressed(coerced) => given(0, StepKind::AUTODEREF, 1, true, coerced),
+        Settling::Dereferenced => given(
+            unwound(p, depth),
+            StepKind::AUTODEREF,
+            depth,
+            false,
+            false,
+        ),
+        Settling::Refused(number) => refused(number),
+    }
+}
+
+// The words of the reported type after its Pointers.
+pub fn body_of<'a>(s: Settling, cur: &'a [u64], target: &'a [u64]) -> &'a [u64]
+    ensures { λ r. ⌜ now r ≡ ending.bodyOf s (now (cur .entry)) (now (target .entry)) ⌝ }
+{
+    match s {
+        Settling::Kept(_) => cur,
+        Settling::Viewed => target,
+        Settling::Addressed(_) => cur,
+        Settling::Dereferenced => fully_dereferenced(cur),
+        Settling::Refused(_) => cur,
+    }
+}
+
+// The layers of as many Pointers as a type can have.
+pub(crate) fn pointers() -> [u64; 48]
+    ensures { λ r. ⌜ r ≡ spelled (replicate 16 pointer) ⌝ }
+{
+    let p = Kind::POINTER;
+    [
+        p,
+        0,
+        0,
+        p,
+        0,
+        0,
+        p,
+        0,
+        0,
+        p,
+        0,
+        0,
+        p,
+        0,
+        0,
+        p,
+        0,
+        0,
+        p,
+        0,
+        0,
+        p,
+        0,
+        0,
+        p,
+        0,
+        0,
+        p,
+        0,
+        0,
+        p,
+        0,
+        0,
+        p,
+        0,
+        0,
+        p,
+        0,
+        0,
+        p,
+        0,
+        0,
+        p,
+        0,
+        0,
+        p,
+        0,
+        0,
+    ]
+}

@@ -1,0 +1,95 @@
+-- What the code reads of words.
+-- Assumes nothing.
+use mathlib.Core.Path.{_≡_, sym, ap, _∙_}
+use mathlib.Core.Bool.{Bool, true, false, cond}
+use mathlib.Core.List.{List, _∷_}
+use Prim.Native.Nat.{ℕ, _-_, _≤_, _<_}
+use native.Mathlib.Omega.{arith}
+use lib.Dec.{eqb}
+use lib.ListN.{length, getD, take, drop, length-drop, drop-of-length-le, List·getD-eq-default}
+use lib.Seq.{take-all, drop-length}
+use borrow.Author.Tests.{eq-eqb, ne-eqb}
+use Rattle.layers.specs.Layers.{layers, outer, head}
+use Rattle.layers.proofs.Words.{none, more, rest, inner-layers}
+use Rattle.layers.proofs.Accepted.{Whole}
+use Rattle.forms.specs.Formed.{wellFormed}
+use Rattle.steps.proofs.Words.{stepAt}
+use Rattle.turns.specs.Turns.{turn}
+use Rattle.turns.specs.declared.turn.Turn.{Turn}
+use Rattle.turns.specs.declared.turn.Turn.the-variants.{Stuck, Auto, Element, Desliced, Member}
+use Rattle.rounds.specs.Round.{memberRefusal, turnAt, onto}
+use Rattle.rounds.specs.Walked.{AllWhole}
+
+-- a word past the end
+pub past : (q : List ℕ) (i : ℕ) → length q ≤ i → 0 ≡ getD q i 0
+past q i h = sym (List·getD-eq-default q 0 h)
+
+-- the refusal of a member's words
+module _ (ws : List ℕ) where
+  pub no-words : length ws < 3 → 11 ≡ memberRefusal (layers ws)
+  no-words h = rw (none ws)
+
+  pub formed : (f : Bool) → 3 ≤ length ws → f ≡ wellFormed (layers ws) → f ≡ true → 0 ≡ memberRefusal (layers ws)
+  formed f h e g = let w : wellFormed (head ws ∷ layers (rest ws)) ≡ true = rw (← more ws h) (sym e ∙ g) in rw (more ws h, w)
+
+  pub ill-formed : (f : Bool) → 3 ≤ length ws → f ≡ wellFormed (layers ws) → f ≡ false → 4 ≡ memberRefusal (layers ws)
+  ill-formed f h e g = let w : wellFormed (head ws ∷ layers (rest ws)) ≡ false = rw (← more ws h) (sym e ∙ g) in rw (more ws h, w)
+
+-- what a round decides
+pub turned : (cur q d : List ℕ) (x y k m : ℕ) (t : Turn) → x ≡ outer (layers cur) → d ≡ drop 3 cur → y ≡ outer (layers d) → k ≡ getD q 0 0 → m ≡ getD q 2 0 →
+    t ≡ turn x y k m → t ≡ turnAt (layers cur) (stepAt q)
+turned cur q d x y k m t e f g h i j = j ∙ rw (e, g, f, inner-layers cur, h, i)
+
+-- where it goes on
+module _ (members : ℕ → List ℕ) (ws : List ℕ) (handle : ℕ) (t : Turn) where
+  pub stuck : t ≡ Stuck → ws ≡ onto members ws handle t
+  unfolding onto
+  stuck e = rw e
+
+  module _ (x : List ℕ) where
+    pub through : (k : ℕ) → t ≡ Auto k → x ≡ drop 3 ws → x ≡ onto members ws handle t
+    unfolding onto
+    through k e f = rw e f
+
+    pub desliced : (m : ℕ) → t ≡ Desliced m → x ≡ drop 3 ws → x ≡ onto members ws handle t
+    unfolding onto
+    desliced m e f = rw e f
+
+    pub to-member : (h : ℕ) → t ≡ Member → h ≡ handle → x ≡ members h → x ≡ onto members ws handle t
+    unfolding onto
+    to-member h e g f = rw (e, ← g) f
+
+  module _ (m l : ℕ) (e : t ≡ Element m l) (x : List ℕ) (f : x ≡ drop 3 ws) where
+    pub one-layer : l ≡ 1 → x ≡ onto members ws handle t
+    unfolding onto
+    one-layer h = rw (e, eq-eqb l 1 h) f
+
+    pub two-layers : (y : List ℕ) → (l ≡ 1 → ⊥) → y ≡ drop 3 x → y ≡ onto members ws handle t
+    unfolding onto
+    two-layers y h g = rw (e, ne-eqb l 1 h) (g ∙ ap (drop 3) f)
+
+-- a part that runs to the end
+pub to-end : (q : List ℕ) (a : ℕ) → take (length q - a) (drop a q) ≡ drop a q
+to-end q a = take-all (length q - a) (drop a q) (simp length-drop (omega arith))
+
+pub to-end-past : (q : List ℕ) (a : ℕ) → length q < a → take (length q - length q) (drop (length q) q) ≡ drop a q
+to-end-past q a h =
+    let l : length q ≤ a = omega arith in
+    to-end q (length q) ∙ drop-length q ∙ sym (drop-of-length-le q l)
+
+-- the words inside whole layers are whole layers
+pub inner-whole : (ws : List ℕ) → Whole ws → Whole (drop 3 ws)
+inner-whole ws w = let n = length-drop 3 ws in record { whole = omega (arith, n, w .whole); few = omega (arith, n, w .few) }
+
+-- where a round goes on is whole
+pub onto-whole : (members : ℕ → List ℕ) → AllWhole members → (ws : List ℕ) (handle : ℕ) (t : Turn) → Whole ws → Whole (onto members ws handle t)
+unfolding onto
+onto-whole members all ws handle Stuck w = w
+onto-whole members all ws handle (Auto k) w = inner-whole ws w
+onto-whole members all ws handle (Element m l) w = by-layers (eqb l 1)
+  where
+    by-layers : (f : Bool) → Whole (cond f (drop 3 ws) (drop 3 (drop 3 ws)))
+    by-layers true = inner-whole ws w
+    by-layers false = inner-whole (drop 3 ws) (inner-whole ws w)
+onto-whole members all ws handle (Desliced m) w = inner-whole ws w
+onto-whole members all ws handle Member w = all handle
