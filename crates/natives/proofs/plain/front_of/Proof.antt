@@ -1,7 +1,7 @@
 use borrow.Author.Tests.{eq-eqb, ne-eqb}
 use Rattle.layers.proofs.Decide.{yes, no}
-use Rattle.externs.proofs.flags.front_of.Statement.{statement}
-use Rattle.externs.proofs.flags.front_of.Tie as tie
+use Rattle.natives.proofs.plain.front_of.Statement.{statement}
+use Rattle.natives.proofs.plain.front_of.Tie as tie
 
 pub front-of-spec : {M : Type 1} → statement M
 front-of-spec =

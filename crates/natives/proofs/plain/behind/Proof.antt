@@ -1,7 +1,7 @@
 use borrow.Author.Needs.{needs}
-use Rattle.externs.proofs.Fixes.{behind-slice, behind-slice-pointer, behind-none}
-use Rattle.externs.proofs.flags.behind.Statement.{statement}
-use Rattle.externs.proofs.flags.behind.Tie as tie
+use Rattle.natives.proofs.Fronts.{behind-slice, behind-slice-pointer, behind-none}
+use Rattle.natives.proofs.plain.behind.Statement.{statement}
+use Rattle.natives.proofs.plain.behind.Tie as tie
 
 pub behind-spec : {M : Type 1} → statement M
 behind-spec =
