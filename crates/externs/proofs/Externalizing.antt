@@ -18,10 +18,10 @@ use Rattle.layers.proofs.Words.{rest, none, more}
 use Rattle.buffers.specs.Written.{written}
 use Rattle.buffers.proofs.Writing.{part, put, put-back, front-last}
 use Rattle.externs.specs.Fixing.{under, kept, externalized}
-use Rattle.externs.specs.Outcome.{told, over}
+use Rattle.outputs.specs.Outcome.{told, over}
 use Rattle.externs.specs.Room.{Room}
 use Rattle.layers.proofs.Spelling.{spelled-length, spelled-layers}
-use Rattle.externs.proofs.Outcomes.{stays}
+use Rattle.outputs.proofs.Outcomes.{stays}
 
 -- the kinds that externalizing goes inside of, and what becomes of such a layer
 abbrev pub goes : ℕ → Bool

@@ -1,5 +1,4 @@
 -- What the proofs of several functions use.
-pub mod Outcomes
 pub mod Externalizing
 pub mod Fixes
 pub mod Theorems

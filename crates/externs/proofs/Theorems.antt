@@ -14,8 +14,9 @@ use Rattle.layers.specs.Answer.{Answer, given, nothing, refused, next}
 use Rattle.layers.specs.Check.{Place, at, nowhere, badCount, badLayer, misplaced, checkOf, unless}
 use Rattle.forms.specs.Formed.{wellFormed, inner, element}
 use Rattle.forms.proofs.Fits.{one, or, references, or-false}
-use Rattle.externs.specs.Fixing.{parameter, returned, member, under, kept, externalized, externalize, fixedExtern, fixedPlain, fixed}
-use Rattle.externs.specs.Outcome.{delivered}
+use Rattle.natives.specs.Fixed.{parameter, returned, member, fixedPlain}
+use Rattle.externs.specs.Fixing.{under, kept, externalized, externalize, fixedExtern, fixed}
+use Rattle.outputs.specs.Outcome.{delivered}
 use Rattle.externs.specs.Answers.{fixedType}
 use Rattle.externs.proofs.Externalizing.{goes, turned, ways, no-type, from-under, same-length}
 

@@ -7,7 +7,7 @@ use Rattle.layers.specs.Layers.{Layer, layers}
 use Rattle.layers.specs.Answer.{Answer, next}
 use Rattle.layers.specs.Check.{checkOf}
 use Rattle.externs.specs.Fixing.{fixed}
-use Rattle.externs.specs.Outcome.{delivered, told, over}
+use Rattle.outputs.specs.Outcome.{delivered, told, over}
 
 -- The type that is written, or the first refusal: 1 to 3, 5, 4, 6, 15, 14.
 unfoldable pub fixedType : List ℕ → Bool → ℕ → ℕ → Answer (List Layer)

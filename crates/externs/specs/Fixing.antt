@@ -1,25 +1,13 @@
 -- Extern fixing of a type.
-use mathlib.Core.Bool.{Bool, cond, _&&_, _||_}
+use mathlib.Core.Bool.{Bool, cond, _||_}
 use mathlib.Core.List.{List, [], _∷_, _++_}
 use Prim.Native.Nat.{ℕ, _+_}
 use lib.Dec.{eqb, ltb}
 use Rattle.kinds.specs.Kind as kind
 use Rattle.layers.specs.Layers.{Layer, layer, outer, inside, isReference}
 use Rattle.layers.specs.Answer.{Answer, given, nothing, refused}
+use Rattle.natives.specs.Fixed.{member, fixedPlain}
 use Rattle.forms.specs.Formed.{wellFormed}
-
--- "Contexts: Const 0, Parameter 1, Returned 2, Member 3."
-abbrev pub const : ℕ
-const = 0
-
-abbrev pub parameter : ℕ
-parameter = 1
-
-abbrev pub returned : ℕ
-returned = 2
-
-abbrev pub member : ℕ
-member = 3
 
 -- Layers around a type that was made. A refusal stands.
 unfoldable pub under : List Layer → Answer (List Layer) → Answer (List Layer)
@@ -61,14 +49,6 @@ fixedExtern a =
     cond (eqb (outer a) kind.arraylike)
     (under (layer kind.view 0 0 ∷ layer kind.endlessArray 0 0 ∷ []) (externalize 1 (inside a)))
     (externalize 0 a)
-
--- "Not extern: Arraylike becomes Slice; Struct becomes View of it for Parameter and Returned; Pointer to Arraylike becomes SlicePointer; the rest stay."
-unfoldable pub fixedPlain : ℕ → List Layer → List Layer
-fixedPlain context a =
-    cond (eqb (outer a) kind.arraylike) (layer kind.slice 0 0 ∷ inside a)
-    (cond (eqb (outer a) kind.struct && (eqb context parameter || eqb context returned)) (layer kind.view 0 0 ∷ a)
-    (cond (eqb (outer a) kind.pointer && eqb (outer (inside a)) kind.arraylike) (layer kind.slicePointer 0 0 ∷ inside (inside a))
-    a))
 
 -- "5 bad context"
 unfoldable pub fixed : Bool → ℕ → List Layer → Answer (List Layer)

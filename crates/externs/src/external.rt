@@ -1,10 +1,10 @@
-use crate::outcome::write_type;
 use buffers::write_words;
 use forms::is_wellformed;
 use kinds::Kind;
 use layers::Checked;
 use layers::inner;
 use layers::outer;
+use outputs::write_type;
 ghost use mathlib.Core.Path.{_≡_};
 ghost use mathlib.Core.Bool.{cond, _||_};
 ghost use Prim.Native.Nat.{_≤_};
@@ -16,7 +16,7 @@ ghost use Rattle.layers.specs.Answer.{ofChecked};
 ghost use Rattle.externs.specs.Fixing as fixing;
 ghost use Rattle.layers.proofs.Accepted.{Whole};
 ghost use Rattle.externs.specs.Room.{Room};
-ghost use Rattle.externs.specs.Outcome.{told, over, answerIn, bufferIn};
+ghost use Rattle.outputs.specs.Outcome.{told, over, answerIn, bufferIn};
 
 fn is_kept(k: u64) -> bool
     ensures { λ r. ⌜ r ≡ fixing.kept k ⌝ }
@@ -79,7 +79,7 @@ fn externalize_type(t: &[u64], place: u64, made: &mut [u64]) -> Checked
 
 // The type externalized, inside of the layers in front.
 fn externalize_part(front: &[u64], t: &[u64], place: u64, out: &mut [u64]) -> Checked
-    requires { ⌜ Whole (now front) × Whole (now t) × (place ≤ 1) ⌝ }
+    requires { ⌜ Whole (now t) × (place ≤ 1) ⌝ }
     ensures answer { λ r. ⌜ ofChecked r ≡ answerIn (now (out .entry)) (fixing.under (layers (now (front .entry))) (fixing.externalize place (layers (now (t .entry))))) ⌝ }
     ensures buffer { λ _. ⌜ now (out .exit) ≡ bufferIn (now (out .entry)) (fixing.under (layers (now (front .entry))) (fixing.externalize place (layers (now (t .entry))))) ⌝ }
 {

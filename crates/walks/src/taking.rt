@@ -3,6 +3,8 @@ use answers::Answer;
 use answers::refused;
 use layers::Checked;
 use layers::check_type;
+use layers::inner;
+use layers::outer;
 use moves::go;
 use moves::is_desliced;
 use moves::is_stuck;

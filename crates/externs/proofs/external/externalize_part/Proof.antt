@@ -1,6 +1,6 @@
 use borrow.Author.Needs.{needs}
-use Rattle.externs.proofs.Outcomes.{stays}
-use Rattle.externs.proofs.Fixes.{carried, ill-formed, not-allowed, allowed, copied, part-length, part-whole}
+use Rattle.outputs.proofs.Outcomes.{carried, stays}
+use Rattle.externs.proofs.Fixes.{ill-formed, not-allowed, allowed, copied, part-length}
 use Rattle.externs.proofs.external.externalize_part.Statement.{statement}
 use Rattle.externs.proofs.external.externalize_part.Tie as tie
 
@@ -18,11 +18,8 @@ externalize-part-spec =
     (λ c.
     let x = c .before .before .before .before .before in
     let s = x .before .before .before .before .before .before .before in
-    part-length (s .args .t .now) (x .externalize-type .last .1 .1 .0) (s .pre .1) (x .externalize-type .kept .1 .1 .0))
-    (λ c κs.
-    let x = c .before .before .before .before .before in
-    let s = x .before .before .before .before .before .before .before in
-    (s .pre .0, part-whole (s .args .t .now) (x .externalize-type .last .1 .1 .0) (s .pre .1) (x .externalize-type .kept .1 .1 .0)))
+    part-length (s .args .t .now) (x .externalize-type .last .1 .1 .0) (s .pre .0) (x .externalize-type .kept .1 .1 .0))
+    (λ c κs. search needs)
     (λ c.
     let x = c .before .before .before .before in
     let f = x .before .before in
@@ -32,6 +29,6 @@ externalize-part-spec =
     let x = c .before .before .before .before .before .before .before .before in
     let f = x .before .before in
     let s = f .before .before .before .before .before in
-    let room = s .pre .1 .few in
-    let made = copied (s .args .t .now) _ (x .externalize-type .last .1 .1 .0) _ _ _ (s .pre .1 .whole) room (x .externalize-type .ensures .0) (c .before .before .before .before .before .enum-told .given .1) (x .externalize-type .ensures .1) in
+    let room = s .pre .0 .few in
+    let made = copied (s .args .t .now) _ (x .externalize-type .last .1 .1 .0) _ _ _ (s .pre .0 .whole) room (x .externalize-type .ensures .0) (c .before .before .before .before .before .enum-told .given .1) (x .externalize-type .ensures .1) in
     carried _ _ _ _ _ (allowed _ _ _ _ _ (f .before .is-wellformed .ensures) (f .if1 .left) _ made) (c .before .before .write-type .ensures)))

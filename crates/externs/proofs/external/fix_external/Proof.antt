@@ -1,7 +1,8 @@
 use borrow.Author.Needs.{needs}
 use mathlib.Core.Path.{refl, ap}
-use Rattle.externs.specs.Outcome.{delivered}
-use Rattle.externs.proofs.Fixes.{carried, whole-inside, as-endless, as-any}
+use Rattle.outputs.specs.Outcome.{delivered}
+use Rattle.outputs.proofs.Outcomes.{carried}
+use Rattle.externs.proofs.Fixes.{whole-inside, as-endless, as-any}
 use Rattle.externs.proofs.external.fix_external.Statement.{statement}
 use Rattle.externs.proofs.external.fix_external.Tie as tie
 

@@ -1,8 +1,8 @@
 use borrow.Author.Needs.{needs}
 use mathlib.Core.Path.{ap}
-use Rattle.externs.specs.Outcome.{delivered}
-use Rattle.externs.proofs.Outcomes.{stays}
-use Rattle.externs.proofs.Fixes.{carried, no-context, for-extern, for-plain}
+use Rattle.outputs.specs.Outcome.{delivered}
+use Rattle.outputs.proofs.Outcomes.{carried, stays}
+use Rattle.externs.proofs.Fixes.{no-context, for-extern, for-plain}
 use Rattle.externs.proofs.flags.fix_checked.Statement.{statement}
 use Rattle.externs.proofs.flags.fix_checked.Tie as tie
 

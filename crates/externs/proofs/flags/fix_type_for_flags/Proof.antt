@@ -1,7 +1,7 @@
 use borrow.Author.Needs.{needs}
 use Rattle.externs.specs.Answers.{fixedAnswer, fixedBuffer}
-use Rattle.externs.proofs.Outcomes.{stays}
-use Rattle.externs.proofs.Fixes.{carried, checked-whole, unchecked, checked}
+use Rattle.outputs.proofs.Outcomes.{carried, stays}
+use Rattle.externs.proofs.Fixes.{checked-whole, unchecked, checked}
 use Rattle.externs.proofs.flags.fix_type_for_flags.Statement.{statement}
 use Rattle.externs.proofs.flags.fix_type_for_flags.Tie as tie
 

@@ -1,6 +1,4 @@
-use native.Mathlib.Omega.{arith}
-use denote.Ref.{now}
-use Rattle.walks.proofs.Arriving.{at-address, not-address, no-room, room}
+use Rattle.walks.proofs.Arriving.{starts, ends, told}
 use borrow.Author.Needs.{needs}
 use Rattle.walks.proofs.arrival.arrive.Statement.{statement}
 use Rattle.walks.proofs.arrival.arrive.Tie as tie
@@ -10,11 +8,18 @@ arrive-spec =
     tie.close
     (tie.spec
     (λ c κs. search needs)
+    (λ c κs. search needs)
+    (λ c κs. search needs)
+    (λ c. let f = c .before .before in let a = f .before .before .before .before in search (needs, starts (a .args .address) _ (f .before .front-start .ensures)))
+    (λ c. let f = c .before .before in let a = f .before .before .before .before in search (needs, starts (a .args .address) _ (f .before .front-start .ensures), ends (a .args .desliced) _ (f .front-end .ensures) .0))
+    (λ c. let f = c .before .before .before in let a = f .before .before .before .before in search (needs, starts (a .args .address) _ (f .before .front-start .ensures), ends (a .args .desliced) _ (f .front-end .ensures) .0))
+    (λ c. let f = c .before .before .before in let a = f .before .before .before .before in search (needs, ends (a .args .desliced) _ (f .front-end .ensures) .1))
+    (λ c κs. search needs)
+    (λ c κs. search needs)
     (λ c. search needs)
-    (λ c. let a = c .before .before .before .before .before .before .before in at-address (now (a .args .cur)) (now (a .args .out)) (a .args .desliced) (a .args .address) _ _ (search needs) (c .before .before .arrive-at-address .ensures))
-    (λ c κs. search needs)
-    (λ c. let a = c .before .before .before .before .before in not-address (now (a .args .cur)) (now (a .args .out)) (a .args .desliced) (a .args .address) _ _ (search needs) (no-room (now (a .args .cur)) (now (a .args .out)) (a .args .desliced) (a .pre) _ (omega arith) (c .refused .ensures)))
-    (λ c κs. search needs)
-    (λ c κs. search needs)
-    (λ c. search needs)
-    (λ c. let a = c .before .before .before .before .before .before .before .before .before in not-address (now (a .args .cur)) (now (a .args .out)) (a .args .desliced) (a .args .address) _ _ (search needs) (room (now (a .args .cur)) (now (a .args .out)) (a .args .desliced) (a .pre) _ _ (omega arith) (c .before .before .before .write-current .ensures) (c .accepted .ensures))))
+    (λ c.
+    let w = c .before .before .before in
+    let s = w .before .before .before .before in
+    let f = s .before in
+    let a = f .before .before .before .before in
+    told (a .args .address) (a .args .desliced) _ _ (f .before .front-start .ensures) (f .front-end .ensures) _ _ _ _ _ _ (s .staying .ensures) (w .write-type .ensures) (c .checked .ensures)))

@@ -41,6 +41,6 @@ take-steps-spec =
     (λ c. search needs)
     (λ c. search needs)
     (λ c. goes-on _ _ _ _ _ _ _ _ (c .before .before .before .before .before .before .before .before .before .before .before .before .before .before .before .before .before .before .before .pre .1 .1) (c .before .before .before .before .before .before .before .before .before .before .before .before .before .before .loop .inv) (c .before .before .before .before .before .before .before .before .before .before .before .before .before .loop-test .taken) _ _ _ _ _ _ (c .before .before .before .before .before .before .before .before .before .before .asked-member .ensures) (c .before .before .before .before .before .before .before .before .before .kind-of .ensures) (c .before .before .before .before .before .before .before .before .inner .ensures) (c .before .before .before .before .before .before .before .outer .ensures) (c .before .before .before .before .move-of .ensures) (c .before .before .before .is-stuck .ensures) _ _ (c .before .before .if1 .left) (c .before .go .ensures) (c .is-desliced .ensures))
-    (λ c κs. c .before .before .loop .inv .current)
+    (λ c κs. search needs)
     (λ c. search needs)
     (λ c. tells-arrived _ _ _ _ _ _ _ _ _ _ _ _ (c .before .before .before .before .before .loop .inv) (c .before .before .before .before .loop-test .left) (c .before .before .arrive .ensures)))
