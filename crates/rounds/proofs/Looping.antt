@@ -3,7 +3,7 @@
 use mathlib.Core.Path.{_≡_, refl, sym, ap, _∙_}
 use mathlib.Core.List.{List}
 use mathlib.Core.Logic.{_⊎_}
-use Prim.Native.Nat.{ℕ, _+_, _*_, _≤_, _<_, _^_}
+use Prim.Native.Nat.{ℕ, _+_, _*_, _≤_, _<_}
 use native.Mathlib.Omega.{arith}
 use lib.ListN.{length, take, drop, replicate, length-replicate}
 use mir.Syntax.{w64}
@@ -57,8 +57,11 @@ module _ (member : ℕ → List ℕ) (rounds : ℕ) (known asked buf cur rest : 
   pub push-room : i < rounds → rounds ≤ 64 → 4 * n + 8 ≤ length buf
   push-room h k = omega (arith, a .few, a .room)
 
-  pub end-room : rounds ≤ 64 → 4 * n + 64 ≤ length buf
-  end-room k = omega (arith, a .within, a .few, a .room)
+  pub few-steps : rounds ≤ 64 → n ≤ 128
+  few-steps h = omega (arith, a .within, a .few)
+
+  pub end-room : (m : ℕ) → m ≤ 128 → 4 * m + 64 ≤ length buf
+  end-room m h = omega (arith, a .room)
 
   pub taken-fits : (t : Turn) (k : ℕ) → rounds ≤ 64 → k ≡ takenBy t → Fits w64 (taken + k)
   taken-fits t k h e = record { fits = omega (arith, a .within, a .least, took-few t) }

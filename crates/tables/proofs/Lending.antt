@@ -4,7 +4,7 @@
 --                     gathered columns in memory and the token
 --     lends-columns   `&columns`, for a lifetime that is made for it.        columns-back    it is over, and the array is free
 -- Assumes `Given`.
-use mathlib.Core.Path.{_≡_, refl, sym, ap, subst, _∙_}
+use mathlib.Core.Path.{_≡_, refl, ap}
 use Prim.Native.Nat.{ℕ, zero, suc}
 use mathlib.Core.List.{List, [], _∷_}
 use lib.Dec.{T, lit<}
@@ -20,7 +20,7 @@ use prog.Routine.{Routine}
 use prog.Wp.{Heap, Env, Calls, Loops}
 use ghost.Atoms.{Atoms, sem}
 use contract.Monad.{Fun, fact}
-use types.Kit.{Given, Item, Goal, Post, Seq, Step, Soaks, step, runs, lands, ‵, raw, some, later, given, _⊛_, ⋆, _$_, _∵_, !, qed, move, keep, drop, use1, use2, use3, split, join, pick, learn, regoal, rewrite, fsplit, fjoin, feqL, frame, check, show, await, updating, now as at-once, done}
+use types.Kit.{Given, Item, Goal, Post, Seq, Step, Soaks, step, runs, lands, ‵, raw, some, later, _⊛_, ⋆, _$_, _∵_, !, qed, move, keep, drop, use1, use2, use3, split, join, pick, regoal, rewrite, fsplit, fjoin, feqL, frame, show, await, updating, now as at-once, done}
 use types.Run.{Opds, forget}
 use types.SemTy.{Body}
 use types.Tokens.{lft-new, lft-end, lent-back}

@@ -2,7 +2,7 @@ use mathlib.Core.Logic.{⊎-elim, inl, inr}
 use Prim.Native.Nat.{_-_}
 use borrow.Author.Needs.{needs}
 use Rattle.walker.specs.Members.{memberIn}
-use Rattle.rounds.proofs.Looping.{Along, along-start, one-at-most, full, here-whole, push-room, end-room, taken-fits, told-end, steps-end, type-end, told-refusal, steps-stay, type-stays, along-turn}
+use Rattle.rounds.proofs.Looping.{Along, along-start, one-at-most, full, here-whole, push-room, few-steps, end-room, taken-fits, told-end, steps-end, type-end, told-refusal, steps-stay, type-stays, along-turn}
 use Rattle.rounds.proofs.walk.walk_asked.Statement.{statement}
 use Rattle.rounds.proofs.walk.walk_asked.Tie as tie
 
@@ -34,7 +34,7 @@ walk-asked-spec =
     (λ c. search needs)
     (λ c. search along-turn)
     (λ c. search full)
-    (λ c κs. (search here-whole, search needs, search needs, search end-room))
+    (λ c κs. (search here-whole, search needs, search needs, search (end-room, few-steps, needs)))
     (λ c. search needs)
     (λ c. search needs)
     (λ c.

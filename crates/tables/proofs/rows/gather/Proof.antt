@@ -2,7 +2,7 @@
 -- All that the proof knows of `put_row` is that it meets its contract.
 -- Assumes nothing.
 use mathlib.Core.Path.{_≡_, refl, sym, ap, subst, _∙_}
-use Prim.Native.Nat.{ℕ, zero, suc, _+_, _-_, _*_, _≤_, _<_, _^_, zero-le}
+use Prim.Native.Nat.{ℕ, zero, _+_, _-_, _*_, _≤_, _<_, _^_, zero-le}
 use native.Mathlib.Nat.{lt-of-le-of-lt, le-antisymm}
 use native.Mathlib.Numerals.{add-one-le, add-one-dec}
 use native.Mathlib.Omega.{arith}
@@ -42,7 +42,7 @@ use denote.Ref.{RefT, MutRef, ptr-vals, mut-tells}
 use denote.Slice.{slice-vals, sliceVal, sliceTy, ShrSlice, Room, shr-slice-tells, shr-slice-copy}
 use denote.Index.{place-is, elem-out, elem-back, looks-slice, shuts-slice}
 use denote.Lend.{lends-ref, ref-back}
-use denote.Steps.{only, owned, peeks, heard, nothing}
+use denote.Steps.{only, owned, heard, nothing}
 use denote.Struct.Laws as LL
 use denote.Triple.Entry.{onEntry}
 use denote.Triple.Spec.{Meets, tripleOf}
