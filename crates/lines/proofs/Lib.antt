@@ -1,5 +1,4 @@
 -- What is known of a text that is put together.
-pub mod Putting
 pub mod Texts
 pub mod Rows
 pub mod Told

@@ -9,7 +9,7 @@ use native.Mathlib.Omega.{arith}
 use lib.ListN.{length, take, getD, length-append}
 use lib.Seq.{take-all, length-take-le}
 use Rattle.lines.specs.Text.{each}
-use Rattle.lines.proofs.Putting.{Put, nothing-put, then, room, length-put}
+use Rattle.texts.proofs.Putting.{Put, nothing-put, then, room, length-put}
 
 -- what a loop over the types knows before the type at j: the texts of those before it were put at a place of l
 pub record Going (f : ℕ → List ℕ → List ℕ) (ts : List (List ℕ)) (at : ℕ) (l : List ℕ) (j to : ℕ) (k : List ℕ) : Type 0 where

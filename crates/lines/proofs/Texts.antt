@@ -7,9 +7,9 @@ use native.Mathlib.Omega.{arith}
 use native.Mathlib.Nat.{zero-add}
 use lib.ListN.{length, length-append}
 use Rattle.sheets.specs.Sheet.{types, typeAt}
-use Rattle.lines.specs.Put.{putAt}
-use Rattle.lines.specs.Text.{decimal, answers, line, row, rows, header, refusedText, refusal}
-use Rattle.lines.proofs.Putting.{Put, then, room, digits-few}
+use Rattle.texts.specs.Put.{putAt, decimal}
+use Rattle.lines.specs.Text.{answers, line, row, rows, header, refusedText, refusal}
+use Rattle.texts.proofs.Putting.{Put, Did, then, fitted, room, digits-few}
 use Rattle.lines.proofs.Rows.{Going, length-each, going-begin, going-same, going-end, going-room, going-on}
 
 -- thirteen bytes behind the positions
@@ -21,34 +21,39 @@ pub length-line : (i j : ℕ) (a b : List ℕ) → length (line i j a b) ≤ 18
 unfolding line
 length-line i j a b = simp (length-append, length-answers a b) (omega (arith, digits-few i, digits-few j))
 
-module _ (at i : ℕ) (l : List ℕ) (h : at + 18 ≤ length l) (first : ℕ) (l1 : List ℕ) (p : Put at (decimal i) l first l1) where
-  pub room-for-space : first + 1 ≤ length l1
-  room-for-space = room at first (decimal i) l l1 p 1 (omega (arith, digits-few i))
+module _ (at i : ℕ) (l : List ℕ) (h : at + 18 ≤ length l) (first : ℕ) (l1 : List ℕ) (p : Did at (decimal i) l first l1) where
+  one : Put at (decimal i) l first l1
+  one = fitted at (decimal i) l (omega (arith, digits-few i)) first l1 p
 
-  module _ (second : ℕ) (l2 : List ℕ) (q : Put first (32 ∷ []) l1 second l2) where
+  module _ (second : ℕ) (l2 : List ℕ) (q : Did first (32 ∷ []) l1 second l2) where
+    space : Put first (32 ∷ []) l1 second l2
+    space = fitted first (32 ∷ []) l1 (room at first (decimal i) l l1 one 1 (omega (arith, digits-few i))) second l2 q
+
     two : Put at (decimal i ++ 32 ∷ []) l second l2
-    two = then at first second (decimal i) (32 ∷ []) l l1 l2 p q (omega (arith, digits-few i))
+    two = then at first second (decimal i) (32 ∷ []) l l1 l2 one space (omega (arith, digits-few i))
 
-    pub room-for-number : second + 2 ≤ length l2
-    room-for-number = room at second (decimal i ++ 32 ∷ []) l l2 two 2 (simp length-append (omega (arith, digits-few i)))
+    module _ (j third : ℕ) (l3 : List ℕ) (r : Did second (decimal j) l2 third l3) where
+      number : Put second (decimal j) l2 third l3
+      number =
+          let k = room at second (decimal i ++ 32 ∷ []) l l2 two 2 (simp length-append (omega (arith, digits-few i))) in
+          fitted second (decimal j) l2 (omega (arith, k, digits-few j)) third l3 r
 
-    module _ (j third : ℕ) (l3 : List ℕ) (r : Put second (decimal j) l2 third l3) where
       three : Put at (decimal i ++ 32 ∷ [] ++ decimal j) l third l3
       three =
-          then at second third (decimal i ++ 32 ∷ []) (decimal j) l l2 l3 two r
+          then at second third (decimal i ++ 32 ∷ []) (decimal j) l l2 l3 two number
           (simp length-append (omega (arith, digits-few i, digits-few j)))
 
       module _ (a b t : List ℕ) (e : t ≡ answers a b) where
-        pub room-for-answers : third + length t ≤ length l3
-        room-for-answers =
+        enough : third + length t ≤ length l3
+        enough =
             rw (e, length-answers a b)
             (room at third (decimal i ++ 32 ∷ [] ++ decimal j) l l3 three 13
             (simp length-append (omega (arith, digits-few i, digits-few j))))
 
-        pub line-put : (to : ℕ) (l4 : List ℕ) → Put third t l3 to l4 → Put at (line i j a b) l to l4
+        pub line-put : (to : ℕ) (l4 : List ℕ) → Did third t l3 to l4 → Put at (line i j a b) l to l4
         unfolding line
         line-put to l4 s =
-            then at third to (decimal i ++ 32 ∷ [] ++ decimal j) (answers a b) l l3 l4 three (rw e at s)
+            then at third to (decimal i ++ 32 ∷ [] ++ decimal j) (answers a b) l l3 l4 three (rw e at (fitted third t l3 enough to l4 s))
             (simp (length-append, length-answers a b) (omega (arith, digits-few i, digits-few j)))
 
 -- the lines of the left type at i
@@ -124,17 +129,22 @@ module _ (words : List ℕ) (at n : ℕ) (l : List ℕ) (pre : (at + n * 576 ≤
       table-on to' k' q = going-on (row (types words)) 576 (rows-short (types words) few) (types words) at l rows-fit i to k p next to' k' q
 
 -- the line of a refusal
-module _ (n : ℕ) (l : List ℕ) (h : 12 ≤ length l) (first : ℕ) (l1 : List ℕ) (p : Put 0 refusedText l first l1) (second : ℕ) (l2 : List ℕ)
-    (q : Put first (decimal n) l1 second l2) where
+module _ (n : ℕ) (l : List ℕ) (h : 12 ≤ length l) (first : ℕ) (l1 : List ℕ) (p : Did 0 refusedText l first l1) (second : ℕ) (l2 : List ℕ)
+    (q : Did first (decimal n) l1 second l2) where
+  word : Put 0 refusedText l first l1
+  word = fitted 0 refusedText l (omega arith) first l1 p
+
   numbered : Put 0 (refusedText ++ decimal n) l second l2
-  numbered = then 0 first second refusedText (decimal n) l l1 l2 p q (omega (arith, digits-few n))
+  numbered =
+      let k = room 0 first refusedText l l1 word 2 (omega arith) in
+      then 0 first second refusedText (decimal n) l l1 l2 word (fitted first (decimal n) l1 (omega (arith, k, digits-few n)) second l2 q)
+      (omega (arith, digits-few n))
 
-  pub room-for-end : second + 1 ≤ length l2
-  room-for-end = room 0 second (refusedText ++ decimal n) l l2 numbered 1 (simp length-append (omega (arith, digits-few n)))
-
-  pub refusal-put : (to : ℕ) (l3 : List ℕ) → Put second (10 ∷ []) l2 to l3 → (to ≡ length (refusal n)) × (l3 ≡ putAt 0 (refusal n) l)
+  pub refusal-put : (to : ℕ) (l3 : List ℕ) → Did second (10 ∷ []) l2 to l3 → (to ≡ length (refusal n)) × (l3 ≡ putAt 0 (refusal n) l)
   refusal-put to l3 r =
-      let s = then 0 second to (refusedText ++ decimal n) (10 ∷ []) l l2 l3 numbered r (simp length-append (omega (arith, digits-few n))) in
+      let k = room 0 second (refusedText ++ decimal n) l l2 numbered 1 (simp length-append (omega (arith, digits-few n))) in
+      let s = then 0 second to (refusedText ++ decimal n) (10 ∷ []) l l2 l3 numbered (fitted second (10 ∷ []) l2 k to l3 r)
+      (simp length-append (omega (arith, digits-few n))) in
       (rw zero-add at (s .0), s .1)
 
 -- the header, and the lines behind it
@@ -144,8 +154,14 @@ module _ (words l : List ℕ) (n : ℕ) (pre : (18494 ≤ length l) × (n ≤ 32
       let few : length (types words) ≤ 32 = omega (arith, pre .1, pre .2) in
       omega (arith, few, length-each (row (types words)) 576 (rows-short (types words) few) 1 (types words))
 
-  pub table-put : (at : ℕ) (l1 : List ℕ) → Put 0 header l at l1 → (to : ℕ) (l2 : List ℕ) → Put at (rows (types words)) l1 to l2 →
+  header-put : (at : ℕ) (l1 : List ℕ) → Did 0 header l at l1 → Put 0 header l at l1
+  header-put at l1 p = fitted 0 header l (omega (arith, pre .0)) at l1 p
+
+  pub rows-room : (at : ℕ) (l1 : List ℕ) → Did 0 header l at l1 → (at + n * 576 ≤ length l1) × (n ≤ 32) × (n ≡ length (types words))
+  rows-room at l1 p = (room 0 at header l l1 (header-put at l1 p) (n * 576) (omega (arith, pre .0, pre .1)), pre .1, pre .2)
+
+  pub table-put : (at : ℕ) (l1 : List ℕ) → Did 0 header l at l1 → (to : ℕ) (l2 : List ℕ) → Put at (rows (types words)) l1 to l2 →
       (to ≡ length (header ++ rows (types words))) × (l2 ≡ putAt 0 (header ++ rows (types words)) l)
   table-put at l1 p to l2 q =
-      let s = then 0 at to header (rows (types words)) l l1 l2 p q (omega (arith, pre .0, all-short)) in
+      let s = then 0 at to header (rows (types words)) l l1 l2 (header-put at l1 p) q (omega (arith, pre .0, all-short)) in
       (rw zero-add at (s .0), s .1)

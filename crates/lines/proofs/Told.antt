@@ -16,9 +16,9 @@ use Rattle.words.specs.Little.{wholeWords}
 use Rattle.sheets.specs.Sheet.{types, readSheet}
 use Rattle.sheets.proofs.Read.{Read, was-read, small-number}
 use Rattle.words.proofs.Decoding.{words-back}
-use Rattle.lines.specs.Put.{putAt}
+use Rattle.texts.specs.Put.{putAt}
 use Rattle.lines.specs.Text.{header, rows, refusal, text}
-use Rattle.lines.proofs.Putting.{digits-few}
+use Rattle.texts.proofs.Putting.{digits-few}
 use Rattle.lines.proofs.Texts.{all-short}
 
 -- from the first byte on

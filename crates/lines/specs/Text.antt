@@ -1,8 +1,8 @@
 -- What the program `pairs` prints, as bytes.
 use mathlib.Core.Bool.{Bool, cond}
 use mathlib.Core.List.{List, [], _∷_, _++_}
-use Prim.Native.Nat.{ℕ, _+_, _/_, _%_}
-use lib.Dec.{ltb}
+use Prim.Native.Nat.{ℕ, _+_}
+use Rattle.texts.specs.Put.{decimal}
 use Rattle.layers.specs.Answer.{Answer, given, nothing, refused}
 use Rattle.layers.specs.Layers.{layers}
 use Rattle.equalities.specs.Equalities.{equals}
@@ -56,10 +56,6 @@ refusedText = 114 ∷ 101 ∷ 102 ∷ 117 ∷ 115 ∷ 101 ∷ 100 ∷ space ∷ 
 -- "left right equals declared concrete coerces address autoderef"
 abbrev pub header : List ℕ
 header = leftWord ++ space ∷ rightWord ++ space ∷ equalsWord ++ space ∷ declaredWord ++ space ∷ concreteWord ++ space ∷ coercesWord ++ space ∷ addressWord ++ space ∷ autoderefWord ++ newline ∷ []
-
--- A number below 100 in decimal.
-unfoldable pub decimal : ℕ → List ℕ
-decimal n = cond (ltb n 10) ((48 + n) ∷ []) ((48 + n / 10) ∷ (48 + n % 10) ∷ [])
 
 -- "with yes as 1"
 abbrev pub digit : Bool → ℕ

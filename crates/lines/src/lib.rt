@@ -1,6 +1,5 @@
 // The text that `pairs` prints of the bytes of a sheet.
 mod line;
-mod put;
 mod table;
 
 pub use table::pairs_text;

@@ -1,15 +1,15 @@
-use crate::put::put;
-use crate::put::put_number;
 use coercions::can_autoderef_into;
 use coercions::can_coerce_address_into;
 use coercions::can_coerce_into;
 use equalities::equals;
 use relations::can_be_concretization_of;
 use relations::can_be_declared_as;
+use texts::put;
+use texts::put_number;
 ghost use mathlib.Core.Path.{_≡_};
 ghost use Prim.Native.Nat.{_+_, _≤_, _<_};
 ghost use lib.ListN.{length};
-ghost use Rattle.lines.specs.Put.{putAt};
+ghost use Rattle.texts.specs.Put.{putAt};
 ghost use Rattle.lines.specs.Text as text;
 
 fn digit(yes: bool) -> u8

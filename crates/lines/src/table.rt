@@ -1,9 +1,9 @@
 use crate::line::put_line;
-use crate::put::put;
-use crate::put::put_number;
 use layers::Checked;
 use sheets::read_sheet;
 use sheets::type_at;
+use texts::put;
+use texts::put_number;
 use words::words_of;
 ghost use mathlib.Core.Path.{_≡_};
 ghost use mathlib.Core.List.{_++_};
@@ -11,7 +11,7 @@ ghost use Prim.Native.Nat.{_+_, _*_, _≤_, _<_};
 ghost use lib.ListN.{length, take};
 ghost use Rattle.buffers.specs.Written.{written};
 ghost use Rattle.sheets.specs.Sheet.{types, typeAt};
-ghost use Rattle.lines.specs.Put.{putAt};
+ghost use Rattle.texts.specs.Put.{putAt};
 ghost use Rattle.lines.specs.Text as text;
 
 // Puts the lines of one left type against each of the n types of a sheet.

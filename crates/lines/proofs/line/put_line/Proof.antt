@@ -1,5 +1,5 @@
 use borrow.Author.Needs.{needs}
-use Rattle.lines.proofs.Texts.{room-for-space, room-for-number, room-for-answers, line-put}
+use Rattle.lines.proofs.Texts.{line-put}
 use Rattle.lines.proofs.line.put_line.Statement.{statement}
 use Rattle.lines.proofs.line.put_line.Tie as tie
 
@@ -9,10 +9,10 @@ put-line-spec =
     (tie.spec
     (λ c κs. search needs)
     (λ c. search needs)
-    (λ c κs. room-for-space _ _ _ (c .before .before .before .before .before .before .before .before .before .pre .0) _ _ (c .before .before .before .before .put-number .ensures))
-    (λ c κs. (room-for-number _ _ _ (c .before .before .before .before .before .before .before .before .before .before .before .before .before .pre .0) _ _ (c .before .before .before .before .before .before .before .before .put-number .ensures) _ _ (c .before .before .before .put .ensures), search needs))
+    (λ c κs. search needs)
+    (λ c κs. search needs)
     (λ c κs. search needs)
     (λ c. search needs)
-    (λ c κs. room-for-answers _ _ _ (c .before .before .before .before .before .before .before .before .before .before .before .before .before .before .before .before .before .before .before .pre .0) _ _ (c .before .before .before .before .before .before .before .before .before .before .before .before .before .before .put-number .ensures) _ _ (c .before .before .before .before .before .before .before .before .before .put .ensures) _ _ _ (c .before .before .before .before .before .put-number2 .ensures) _ _ _ (c .before .answers .ensures))
+    (λ c κs. search needs)
     (λ c. search needs)
     (λ c. line-put _ _ _ (c .before .before .before .before .before .before .before .before .before .before .before .before .before .before .before .before .before .before .before .before .before .before .pre .0) _ _ (c .before .before .before .before .before .before .before .before .before .before .before .before .before .before .before .before .before .put-number .ensures) _ _ (c .before .before .before .before .before .before .before .before .before .before .before .before .put .ensures) _ _ _ (c .before .before .before .before .before .before .before .before .put-number2 .ensures) _ _ _ (c .before .before .before .before .answers .ensures) _ _ (c .before .before .put2 .ensures)))

@@ -1,5 +1,5 @@
 use borrow.Author.Needs.{needs}
-use Rattle.lines.proofs.Texts.{room-for-end, refusal-put}
+use Rattle.lines.proofs.Texts.{refusal-put}
 use Rattle.lines.proofs.table.put_refusal.Statement.{statement}
 use Rattle.lines.proofs.table.put_refusal.Tie as tie
 
@@ -11,6 +11,6 @@ put-refusal-spec =
     (λ c κs. search needs)
     (λ c κs. search needs)
     (λ c. search needs)
-    (λ c κs. room-for-end _ _ (c .before .before .before .before .before .before .before .before .before .before .before .before .pre .0) _ _ (c .before .before .before .before .before .before .before .before .put .ensures) _ _ (c .before .before .before .before .put-number .ensures))
+    (λ c κs. search needs)
     (λ c. search needs)
     (λ c. refusal-put _ _ (c .before .before .before .before .before .before .before .before .before .before .before .before .before .before .before .pre .0) _ _ (c .before .before .before .before .before .before .before .before .before .before .before .put .ensures) _ _ (c .before .before .before .before .before .before .before .put-number .ensures) _ _ (c .before .before .put2 .ensures)))

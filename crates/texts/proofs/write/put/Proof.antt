@@ -1,9 +1,9 @@
 use borrow.Author.Needs.{needs}
-use Rattle.lines.proofs.put.put.Statement.{statement}
-use Rattle.lines.proofs.put.put.Tie as tie
 use Prim.Native.Nat.{_-_}
 use lib.ListN.{length}
-use Rattle.lines.proofs.Putting.{Copied, copy-begin, copy-more, copied-to, copied}
+use Rattle.texts.proofs.Putting.{Copied, past-end, too-long, copy-begin, inside, copy-more, copied}
+use Rattle.texts.proofs.write.put.Statement.{statement}
+use Rattle.texts.proofs.write.put.Tie as tie
 
 abbrev Inv-loop : tie.InvT-loop
 Inv-loop out₀ at bytes i₀ out i = Copied out₀ bytes at out i
@@ -17,13 +17,16 @@ put-spec =
     (tie.spec
     Inv-loop
     μ-loop
+    (λ c. past-end _ _ _ (c .if1 .taken))
+    (λ c. search needs)
+    (λ c. too-long _ _ _ (c .before .if1 .left) (c .if2 .taken))
     (λ c. search copy-begin)
     (λ c. search needs)
     (λ c. search needs)
-    (λ c. search needs)
+    (λ c. search inside)
     (λ c. search needs)
     (λ c. search needs)
     (λ c. search copy-more)
     (λ c. search needs)
     (λ c. search needs)
-    (λ c. (search copied-to, search copied)))
+    (λ c. copied _ _ _ _ _ (c .before .loop .inv) (c .loop-test .left)))

@@ -1,0 +1,24 @@
+-- Bytes put into a lent text, and a number in decimal.
+use mathlib.Core.Bool.{Bool, cond}
+use mathlib.Core.List.{List, [], _∷_, _++_}
+use Prim.Native.Nat.{ℕ, _+_, _/_, _%_}
+use lib.Dec.{leb, ltb}
+use lib.ListN.{length, take, drop}
+
+-- Bytes put from a place on; the rest is kept.
+unfoldable pub putAt : ℕ → List ℕ → List ℕ → List ℕ
+putAt at t l = take at l ++ t ++ drop (at + length t) l
+
+-- The same where they fit, and nothing where they do not; and the place behind them.
+abbrev pub fits : ℕ → List ℕ → List ℕ → Bool
+fits at t l = leb (at + length t) (length l)
+
+unfoldable pub putIn : ℕ → List ℕ → List ℕ → List ℕ
+putIn at t l = cond (fits at t l) (putAt at t l) l
+
+unfoldable pub behind : ℕ → List ℕ → List ℕ → ℕ
+behind at t l = cond (fits at t l) (at + length t) at
+
+-- A number below 100 in decimal; of others nothing.
+unfoldable pub decimal : ℕ → List ℕ
+decimal n = cond (ltb n 10) ((48 + n) ∷ []) (cond (ltb n 100) ((48 + n / 10) ∷ (48 + n % 10) ∷ []) [])
