@@ -32,6 +32,20 @@ pub refuses : (d : Answer Plan) (n p : ℕ) (s t : List ℕ) → d ≡ refused n
 unfolding told stepsOver typeOver
 refuses d n p s t e = rw e (refl, (refl, refl))
 
+-- an outcome that is a refusal
+module _ (n p : ℕ) (outcome : Answer Plan) (e : outcome ≡ refused n p) where
+  pub told-refused : (r : Report) → r ≡ notGiven n p → r ≡ told outcome
+  unfolding told
+  told-refused r i = rw e i
+
+  pub steps-stay : (s : List ℕ) → s ≡ stepsOver outcome s
+  unfolding stepsOver
+  steps-stay s = rw e refl
+
+  pub type-stays : (t : List ℕ) → t ≡ typeOver outcome t
+  unfolding typeOver
+  type-stays t = rw e refl
+
 -- neither of two runs is too short
 pub second-fits : (a b c d : ℕ) → (ltb a b || ltb c d) ≡ false → d ≤ c
 second-fits a b c d e = by-first (ltb a b) e

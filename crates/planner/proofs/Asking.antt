@@ -30,6 +30,7 @@ use Rattle.endings.specs.Plan.{Plan}
 use Rattle.planner.specs.Plan.{planOf}
 use Rattle.endings.specs.Report.{delivered, notGiven, told, stepsOver, typeOver}
 use Rattle.endings.specs.declared.report.Report.{Report}
+use Rattle.endings.proofs.Delivering.{told-refused, steps-stay, type-stays}
 use Rattle.rounds.specs.Walked.{AllWhole, walked}
 use Rattle.planner.specs.Answers.{limits, question, planned, planAnswer}
 
@@ -39,20 +40,6 @@ over asked rounds h = rw (lt-ltb 64 rounds h)
 
 pub within : (asked : List ℕ) (rounds : ℕ) (r : Answer ℕ) → rounds ≤ 64 → r ≡ stepsAnswer 32 asked → r ≡ limits asked rounds
 within asked rounds r h e = rw (le-ltb 64 rounds h) e
-
--- an outcome that is a refusal
-module _ (n p : ℕ) (outcome : Answer Plan) (e : outcome ≡ refused n p) where
-  pub told-refused : (r : Report) → r ≡ notGiven n p → r ≡ told outcome
-  unfolding told
-  told-refused r i = rw e i
-
-  pub steps-stay : (s : List ℕ) → s ≡ stepsOver outcome s
-  unfolding stepsOver
-  steps-stay s = rw e refl
-
-  pub type-stays : (t : List ℕ) → t ≡ typeOver outcome t
-  unfolding typeOver
-  type-stays t = rw e refl
 
 -- a table given by its columns
 module _ (ws : List ℕ) (n : ℕ) (store known asked target : List ℕ) (level rounds room wide : ℕ) (b : Bool) (e : b ≡ inOrder (readFrom ws 0 n) store) where

@@ -1,6 +1,6 @@
 -- What the walk's loop keeps, its ways on and out, as the code meets them.
 -- Assumes nothing.
-use mathlib.Core.Path.{_≡_, refl, sym, ap, _∙_}
+use mathlib.Core.Path.{_≡_, sym, ap, _∙_}
 use mathlib.Core.List.{List}
 use mathlib.Core.Logic.{_⊎_}
 use Prim.Native.Nat.{ℕ, _+_, _*_, _≤_, _<_}
@@ -16,6 +16,7 @@ use Rattle.turns.specs.declared.turn.Turn.{Turn}
 use Rattle.endings.specs.declared.report.Report.{Report}
 use Rattle.endings.specs.Plan.{Plan}
 use Rattle.endings.specs.Report.{notGiven, told, stepsOver, typeOver}
+use Rattle.endings.proofs.Delivering as outcome
 use Rattle.rounds.specs.Walk.{stepsOf, takenBy}
 use Rattle.rounds.specs.Round.{turnAt, onto, refusal}
 use Rattle.rounds.specs.Walked.{AllWhole, finished, walked}
@@ -95,16 +96,13 @@ module _ (member : ℕ → List ℕ) (rounds : ℕ) (known asked buf cur rest : 
       refusing = walk-refused member known asked target level rounds room wide e (stops member rounds known asked buf cur rest i n taken (a .so) lt more t is next f e g z)
 
       pub told-refusal : (r : Report) → r ≡ notGiven e 0 → r ≡ told (walked member known asked target level rounds room wide)
-      unfolding told
-      told-refusal r q = rw refusing q
+      told-refusal r q = outcome.told-refused e 0 _ refusing r q
 
       pub steps-stay : (s : List ℕ) → s ≡ stepsOver (walked member known asked target level rounds room wide) s
-      unfolding stepsOver
-      steps-stay s = rw refusing refl
+      steps-stay s = outcome.steps-stay e 0 _ refusing s
 
       pub type-stays : (s : List ℕ) → s ≡ typeOver (walked member known asked target level rounds room wide) s
-      unfolding typeOver
-      type-stays s = rw refusing refl
+      type-stays s = outcome.type-stays e 0 _ refusing s
 
     pub along-turn : e ≡ 0 → AllWhole member → (buf′ rest′ : List ℕ) (n′ k : ℕ) → Pushed buf n buf′ n′ (stepsOf (stepAt rest) t) → length buf′ ≡ length buf → k ≡ takenBy t → rest′ ≡ drop (4 * k) rest →
         Along member rounds known asked buf′ next rest′ (i + 1) n′ (taken + k)
