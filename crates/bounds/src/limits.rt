@@ -1,8 +1,8 @@
 use crate::values::Bound;
 use crate::values::Halves;
+use checks::check_type;
 use kinds::Kind;
 use layers::Checked;
-use layers::check_type;
 use layers::outer;
 ghost use mathlib.Core.Path.{_≡_};
 ghost use Rattle.layers.specs.Layers.{layers};

@@ -135,7 +135,7 @@ pub(crate) fn report(ws: &[u64]) {
         text(b")");
     }
     text(b":");
-    checked(layers::check_type(ws));
+    checked(checks::check_type(ws));
     properties(ws);
     uses(ws);
     starts(ws);

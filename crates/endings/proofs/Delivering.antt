@@ -9,9 +9,8 @@ use lib.Dec.{ltb}
 use lib.ListN.{length, take, replicate, length-append, length-replicate}
 use lib.Seq.{take-at, length-take-le}
 use borrow.Author.Tests.{lt-ltb, le-ltb, ltb-false}
-use Rattle.layers.specs.Layers.{Layer, layers, spelled}
+use Rattle.layers.specs.Layers.{Layer, layers, spelled, Whole}
 use Rattle.layers.specs.Answer.{Answer, given, refused}
-use Rattle.layers.proofs.Accepted.{Whole}
 use Rattle.layers.proofs.Spelling.{spelled-length, spelled-append, spelled-layers}
 use Rattle.buffers.specs.Written.{written}
 use Rattle.buffers.proofs.Writing.{part, put, front-first}

@@ -5,7 +5,7 @@ use buffers::write_words;
 ghost use mathlib.Core.Path.{_≡_};
 ghost use Prim.Native.Nat.{_*_, _≤_};
 ghost use lib.ListN.{length, take};
-ghost use Rattle.layers.proofs.Accepted.{Whole};
+ghost use Rattle.layers.specs.Layers.{Whole};
 ghost use Rattle.endings.specs.Report as report;
 ghost use Rattle.endings.specs.Ending.{planned};
 

@@ -3,26 +3,26 @@
 use mathlib.Core.Path.{_≡_, refl, sym, ap, _∙_}
 use mathlib.Core.Bool.{Bool, true, false, not}
 use mathlib.Core.List.{List, [], _++_}
-use Prim.Native.Nat.{ℕ, _-_, _%_, _≤_, _<_}
+use Prim.Native.Nat.{ℕ, _%_, _≤_, _<_}
 use native.Mathlib.Omega.{arith}
-use lib.ListN.{length, take, drop, length-drop}
+use lib.ListN.{length, take, drop}
 use lib.Seq.{take-at, length-take-le}
 use borrow.Author.Tests.{eq-eqb, ne-eqb, lt-ltb, le-ltb, not-true, not-false}
 use Rattle.kinds.specs.Kind as kind
 use Rattle.kinds.specs.Words.{words}
-use Rattle.layers.specs.Layers.{Layer, layers, outer, spelled}
+use Rattle.layers.specs.Layers.{Layer, layers, outer, spelled, Whole}
 use Rattle.layers.specs.Answer.{Answer, given, nothing, refused, ofChecked}
-use Rattle.layers.specs.Check.{checkOf}
+use Rattle.checks.specs.Check.{checkOf}
 use Rattle.layers.specs.declared.answers.Checked.{Checked}
 use Rattle.layers.specs.declared.answers.Checked.the-variants.{Good, Refused}
-use Rattle.layers.proofs.Words.{inner-layers}
+use Rattle.layers.proofs.Words.{inner-layers, inner-whole}
 use Rattle.forms.specs.Formed.{wellFormed}
 use Rattle.buffers.specs.Written.{written}
 use Rattle.buffers.proofs.Writing.{fits}
 use Rattle.externs.specs.Fixing.{under, externalized, externalize, fixedExtern, fixed}
 use Rattle.natives.specs.Fixed.{member, fixedPlain}
 use Rattle.outputs.specs.Outcome.{delivered, told, over}
-use Rattle.layers.proofs.Accepted.{Whole, accepted-whole}
+use Rattle.checks.proofs.Accepted.{accepted-whole}
 use Rattle.externs.specs.Answers.{fixedType}
 use Rattle.layers.proofs.Spelling.{spelled-length, spelled-layers, layers-spelled}
 use Rattle.externs.proofs.Externalizing.{told-refused, told-given, same-length}
@@ -32,9 +32,7 @@ pub checked-whole : (ws : List ℕ) (r : Checked) (i : ℕ) → ofChecked r ≡ 
 checked-whole ws r i e h = accepted-whole ws i (sym e ∙ rw h)
 
 pub whole-inside : (ws l : List ℕ) → Whole ws → l ≡ drop 3 ws → Whole l
-whole-inside ws l w e =
-    let n : length l ≡ length ws - 3 = rw e (length-drop 3 ws) in
-    record { whole = omega (arith, w .whole); few = omega (arith, w .few) }
+whole-inside ws l w e = rw e (inner-whole ws w)
 
 -- extern: the type handed to externalizing
 module _ (room place : ℕ) (front : List Layer) (t : List ℕ) where

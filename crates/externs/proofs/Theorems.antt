@@ -1,7 +1,7 @@
 -- What follows from the rules of extern fixing.
 -- Assumes nothing.
 use mathlib.Core.Path.{_≡_, refl, sym, _∙_}
-use mathlib.Core.Bool.{Bool, true, false, cond, not, _&&_, _||_, false≢true}
+use mathlib.Core.Bool.{Bool, true, false, cond, _&&_, _||_, false≢true}
 use mathlib.Core.List.{List, [], _∷_}
 use Prim.Native.Nat.{ℕ, suc, _+_, _/_}
 use native.Mathlib.Omega.{arith}
@@ -11,7 +11,7 @@ use borrow.Author.Tests.{eqb-true}
 use Rattle.kinds.specs.Kind as kind
 use Rattle.layers.specs.Layers.{Layer, layer, layers, outer, inside, isReference, holdsInner, spelled}
 use Rattle.layers.specs.Answer.{Answer, given, nothing, refused, next}
-use Rattle.layers.specs.Check.{Place, at, nowhere, badCount, badLayer, misplaced, checkOf, unless}
+use Rattle.checks.specs.Check.{Place, at, nowhere, badCount, badLayer, misplaced, checkOf, unless}
 use Rattle.forms.specs.Formed.{wellFormed, inner, element}
 use Rattle.forms.proofs.Fits.{one, or, references, or-false}
 use Rattle.natives.specs.Fixed.{parameter, returned, member, fixedPlain}

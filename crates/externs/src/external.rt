@@ -11,10 +11,9 @@ ghost use Prim.Native.Nat.{_≤_};
 ghost use lib.Dec.{eqb};
 ghost use Rattle.kinds.specs.Kind as kind;
 ghost use Rattle.kinds.specs.Words.{words};
-ghost use Rattle.layers.specs.Layers.{layers, isReference};
+ghost use Rattle.layers.specs.Layers.{layers, isReference, Whole};
 ghost use Rattle.layers.specs.Answer.{ofChecked};
 ghost use Rattle.externs.specs.Fixing as fixing;
-ghost use Rattle.layers.proofs.Accepted.{Whole};
 ghost use Rattle.externs.specs.Room.{Room};
 ghost use Rattle.outputs.specs.Outcome.{told, over, answerIn, bufferIn};
 

@@ -1,12 +1,11 @@
 use crate::external::fix_external;
+use checks::check_type;
 use layers::Checked;
-use layers::check_type;
 use natives::fix_plain;
 ghost use mathlib.Core.Path.{_≡_};
-ghost use Rattle.layers.specs.Layers.{layers};
+ghost use Rattle.layers.specs.Layers.{layers, Whole};
 ghost use Rattle.layers.specs.Answer.{ofChecked};
 ghost use Rattle.externs.specs.Fixing as fixing;
-ghost use Rattle.layers.proofs.Accepted.{Whole};
 ghost use Rattle.outputs.specs.Outcome.{answerIn, bufferIn};
 ghost use Rattle.externs.specs.Answers.{fixedAnswer, fixedBuffer};
 

@@ -6,7 +6,7 @@ use lib.Dec.{eqb}
 use Rattle.kinds.specs.Kind as kind
 use Rattle.layers.specs.Layers.{Layer, layers, outer, inside, isArray, isSlice, holdsInner}
 use Rattle.layers.specs.Answer.{Answer, next, truth}
-use Rattle.layers.specs.Check.{checkOf}
+use Rattle.checks.specs.Check.{checkOf}
 
 -- "Inner: a leaf but Void; Array, ArrayWithNamedLength, EndlessArray or Arraylike of an Element; Pointer to an Inner."
 -- An Element is said of what is inside, as below.

@@ -6,7 +6,7 @@ use lib.Dec.{eqb}
 use Rattle.kinds.specs.Kind as kind
 use Rattle.layers.specs.Layers.{layers, outer}
 use Rattle.layers.specs.Answer.{Answer, next, truth}
-use Rattle.layers.specs.Check.{checkOf}
+use Rattle.checks.specs.Check.{checkOf}
 use Rattle.forms.specs.declared.properties.Property.{Property}
 use Rattle.forms.specs.declared.properties.Property.the-variants as property
 

@@ -1,7 +1,7 @@
+use checks::check_type;
 use kinds::Kind;
 use layers::Checked;
 use layers::Verdict;
-use layers::check_type;
 use layers::is_array;
 use layers::is_reference;
 use layers::is_slice;

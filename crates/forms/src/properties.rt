@@ -1,7 +1,7 @@
+use checks::check_type;
 use kinds::Kind;
 use layers::Checked;
 use layers::Verdict;
-use layers::check_type;
 use layers::outer;
 ghost use mathlib.Core.Path.{_≡_};
 ghost use lib.Dec.{eqb};

@@ -7,13 +7,7 @@ use contract.Lifetimes.{Lfts}
 use denote.Ref.{now}
 use denote.Triple.Clauses.{AtExit}
 use borrow.Fn.Kinds.{PK, RK, Out, Dens, resT, endedOf}
-use Rattle.layers.proofs.Apart.{checked-apart, verdict-apart}
-use Rattle.layers.proofs.check.check_type.Kinds as check-type-kinds
-use Rattle.layers.proofs.check.check_type.Reads as check-type
-use Rattle.layers.proofs.check.check_types.Kinds as check-types-kinds
-use Rattle.layers.proofs.check.check_types.Reads as check-types
-use Rattle.layers.proofs.check.is_type.Kinds as is-type-kinds
-use Rattle.layers.proofs.check.is_type.Reads as is-type
+use Rattle.layers.proofs.Apart.{verdict-apart}
 use Rattle.layers.proofs.layer.is_array.Kinds as is-array-kinds
 use Rattle.layers.proofs.layer.is_array.Reads as is-array
 use Rattle.layers.proofs.layer.is_slice.Kinds as is-slice-kinds
@@ -33,17 +27,8 @@ abbrev pub Single : (n : ℕ) (ps : List (PK n)) (r : RK n) → Out n ps r → T
 Single n ps r Q =
     (κs : Lfts n) (a : Dens κs ps) (x y : resT r κs .Denot) (s t : AtExit (endedOf n ps r) κs) → Q κs a x s → Q κs a y t → x ≡ y
 
-pub check-type-single : Single 1 check-type-kinds.ps check-type-kinds.r check-type.Post
-check-type-single κs a x y s t p q = checked-apart x y (p ∙ sym q)
-
-pub check-types-single : Single 2 check-types-kinds.ps check-types-kinds.r check-types.Post
-check-types-single κs a x y s t p q = checked-apart x y (p ∙ sym q)
-
 pub of-single : Single 0 of-kinds.ps of-kinds.r of.Post
 of-single κs a x y s t p q = verdict-apart x y (p ∙ sym q)
-
-pub is-type-single : Single 1 is-type-kinds.ps is-type-kinds.r is-type.Post
-is-type-single κs a x y s t p q = p ∙ sym q
 
 pub is-array-single : Single 0 is-array-kinds.ps is-array-kinds.r is-array.Post
 is-array-single κs a x y s t p q = p ∙ sym q

@@ -7,7 +7,7 @@ use native.Mathlib.Omega.{arith}
 use lib.ListN.{length, take, drop, getD, length-drop, length-take, drop-of-length-le}
 use lib.Seq.{take-all}
 use lib.Dec.{T, leb, leb→le}
-use Rattle.layers.specs.Layers.{layers, outer, inside, head}
+use Rattle.layers.specs.Layers.{layers, outer, inside, head, Whole}
 
 -- the words from the fourth on, as the code takes them
 abbrev pub rest : List ℕ → List ℕ
@@ -63,3 +63,7 @@ module _ (a : List ℕ) where
   inner-none h =
       let short : length a ≤ 3 = omega arith in
       sym (drop-of-length-le a short)
+
+-- the words inside whole layers are whole layers
+pub inner-whole : (ws : List ℕ) → Whole ws → Whole (drop 3 ws)
+inner-whole ws w = let n = length-drop 3 ws in record { whole = omega (arith, n, w .whole); few = omega (arith, n, w .few) }

@@ -1,9 +1,10 @@
 -- How a type is written.
+use mathlib.Core.Path.{_≡_}
 use mathlib.Core.Bool.{Bool, _||_}
 use mathlib.Core.List.{List, [], _∷_}
-use Prim.Native.Nat.{ℕ}
+use Prim.Native.Nat.{ℕ, _%_, _≤_}
 use lib.Dec.{eqb}
-use lib.ListN.{drop, getD}
+use lib.ListN.{length, drop, getD}
 use Rattle.kinds.specs.Kind as kind
 
 -- "A layer is three u64 words: kind, name, number."
@@ -21,6 +22,11 @@ layers (k ∷ n ∷ m ∷ ws) = layer k n m ∷ layers ws
 layers (k ∷ n ∷ []) = []
 layers (k ∷ []) = []
 layers [] = []
+
+-- Words that are whole layers, "1 to 16 layers" at most.
+pub record Whole (ws : List ℕ) : Type 0 where
+  pub whole : length ws % 3 ≡ 0
+  pub few : length ws ≤ 48
 
 -- The words of a run of layers.
 unfoldable pub spelled : List Layer → List ℕ

@@ -1,3 +1,2 @@
 pub mod Layers
 pub mod Answer
-pub mod Check

@@ -1,14 +1,10 @@
-// What a type is: its words as layers, the checks of them, and the answers of every question.
+// What a type is: its words as layers; and the answers of every question.
 mod answers;
-mod check;
 mod layer;
 mod outside;
 
 pub use answers::Checked;
 pub use answers::Verdict;
-pub use check::check_type;
-pub use check::check_types;
-pub use check::is_type;
 pub use layer::holds_inner;
 pub use layer::is_array;
 pub use layer::is_reference;

@@ -11,8 +11,8 @@ use lib.Seq.{length-take-le}
 use borrow.Author.Tests.{eqb-false, ne-eqb, lt-leb, le-leb, not-true, not-false}
 use Rattle.layers.specs.Answer as paper
 use Rattle.layers.specs.Answer.{given, refused, ofChecked, next}
-use Rattle.layers.proofs.Refusals.{passed}
-use Rattle.layers.specs.Check.{checkOf, isGood}
+use Rattle.checks.proofs.Refusals.{passed}
+use Rattle.checks.specs.Check.{checkOf, isGood}
 use Rattle.layers.specs.declared.answers.Checked.{Checked}
 use Rattle.layers.specs.declared.answers.Checked.the-variants.{Good, Refused}
 use Rattle.orders.specs.Order.{knownStates, allFree, takenFirst, taken, hasId, repeats, passes, allPass, inOrder}

@@ -11,8 +11,8 @@ use borrow.Author.Tests.{eqb-true, le-leb}
 use Rattle.layers.specs.Layers.{layers}
 use Rattle.layers.specs.Answer as paper
 use Rattle.layers.specs.Answer.{given, nothing, refused, next}
-use Rattle.layers.specs.Check.{badCount, badLayer, misplaced, checkOf, unless, isGood}
-use Rattle.layers.proofs.Checks.{start}
+use Rattle.checks.specs.Check.{badCount, badLayer, misplaced, checkOf, unless, isGood}
+use Rattle.checks.proofs.Checks.{start}
 use Rattle.buffers.specs.Written.{written}
 use Rattle.buffers.proofs.Writing.{length-written}
 use Rattle.orders.specs.Order as order

@@ -4,7 +4,7 @@ use mathlib.Core.List.{List, [], _∷_}
 use Prim.Native.Nat.{ℕ}
 use Rattle.layers.specs.Answer as paper
 use Rattle.layers.specs.Answer.{given, nothing, refused, next}
-use Rattle.layers.specs.Check.{checkOf}
+use Rattle.checks.specs.Check.{checkOf}
 use Rattle.columns.specs.Rows.{free}
 use Rattle.orders.specs.Order.{inOrder}
 use Rattle.columns.specs.declared.symbol.Symbol.{Symbol}

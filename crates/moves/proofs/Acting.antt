@@ -4,18 +4,17 @@ use mathlib.Core.Path.{_≡_, refl, sym, ap, _∙_}
 use mathlib.Core.Bool.{Bool, true, false, cond, _&&_, _||_, and-true, and-false, false≢true}
 use mathlib.Core.List.{List, _∷_}
 use Prim.Native.Nat.{ℕ, _≤_, _<_}
-use native.Mathlib.Omega.{arith}
 use lib.Dec.{eqb, leb}
-use lib.ListN.{length, take, drop, length-drop}
+use lib.ListN.{length, drop}
 use borrow.Author.Tests.{eq-eqb, ne-eqb, eqb-true, leb-true, leb-false}
 use Rattle.kinds.specs.Kind as kind
-use Rattle.layers.specs.Layers.{Layer, layers, outer, inside, innerWords, isArray, isReference}
-use Rattle.layers.proofs.Words.{inner-layers, none, more}
+use Rattle.layers.specs.Layers.{Layer, layers, outer, inside, innerWords, isArray, isReference, Whole}
+use Rattle.layers.proofs.Words.{inner-layers, inner-whole, none, more}
 use Rattle.layers.proofs.Decide.{yes, no}
 use Rattle.steps.specs.StepKind as of-step
 use Rattle.steps.specs.Steps.{Step}
 use Rattle.walker.specs.Walker.{Where, at, stuck, Stored, toStored, element, member, act}
-use Rattle.walker.specs.Members.{ofLayers, Whole}
+use Rattle.walker.specs.Members.{ofLayers}
 use Rattle.moves.specs.Moves.{onElement, onMember, onAutodeslice, takesOff, moveOf, seen, onward, desliced, sticks, moved, Current}
 use Rattle.moves.specs.declared.motion.Move.{Move}
 use Rattle.moves.specs.declared.motion.Move.the-variants.{Stuck, Inside, TwoInside, Deslice, Member}
@@ -172,15 +171,12 @@ no-slice ws true mark h = refl
 no-slice ws false mark h = rw (none ws h)
 
 -- whole layers stay whole
-drop-whole : (ws : List ℕ) → Whole ws → Whole (drop 3 ws)
-drop-whole ws w = (simp length-drop (omega (arith, w .0)), simp length-drop (omega (arith, w .1)))
-
 pub moves-on : (ws m : List ℕ) (b : Bool) (s mark l : ℕ) (there : Bool) (x : Move) → x ≡ moveOf s mark (outer (seen ws b)) l there →
     Whole ws → Whole m → Current (onward x ws m) (desliced x)
 unfolding onward desliced
 moves-on ws m b s mark l there Stuck e w v = (w, λ f. absurd (false≢true f))
-moves-on ws m b s mark l there Inside e w v = (drop-whole ws w, λ f. absurd (false≢true f))
-moves-on ws m b s mark l there TwoInside e w v = (drop-whole (drop 3 ws) (drop-whole ws w), λ f. absurd (false≢true f))
+moves-on ws m b s mark l there Inside e w v = (inner-whole ws w, λ f. absurd (false≢true f))
+moves-on ws m b s mark l there TwoInside e w v = (inner-whole (drop 3 ws) (inner-whole ws w), λ f. absurd (false≢true f))
 moves-on ws m b s mark l there Member e w v = (v, λ f. absurd (false≢true f))
 moves-on ws m b s mark l there Deslice e w v = (w, λ f. by-length (leb 3 (length ws)) refl)
   where

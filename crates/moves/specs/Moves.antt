@@ -6,10 +6,9 @@ use Prim.Native.Nat.{ℕ, _≤_}
 use lib.Dec.{eqb}
 use lib.ListN.{length}
 use Rattle.kinds.specs.Kind as kind
-use Rattle.layers.specs.Layers.{Layer, layer, layers, inside, innerWords, isArray, isReference}
+use Rattle.layers.specs.Layers.{Layer, layer, layers, inside, innerWords, isArray, isReference, Whole}
 use Rattle.steps.specs.StepKind as of-step
 use Rattle.walker.specs.Walker.{Where, at, stuck}
-use Rattle.walker.specs.Members.{Whole}
 use Rattle.moves.specs.declared.motion.Move.{Move}
 use Rattle.moves.specs.declared.motion.Move.the-variants.{Stuck, Inside, TwoInside, Deslice, Member}
 

@@ -1,4 +1,4 @@
-use layers::is_type;
+use checks::is_type;
 ghost use mathlib.Core.Path.{_≡_};
 ghost use Prim.Native.Nat.{_*_, _≤_, _<_};
 ghost use lib.ListN.{length, getD};

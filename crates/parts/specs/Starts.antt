@@ -4,7 +4,7 @@ use mathlib.Core.List.{List}
 use Prim.Native.Nat.{ℕ, _*_}
 use Rattle.layers.specs.Layers.{Layer, layers, outer}
 use Rattle.layers.specs.Answer.{Answer, given, nothing, refused, next}
-use Rattle.layers.specs.Check.{checkOf}
+use Rattle.checks.specs.Check.{checkOf}
 use Rattle.parts.specs.Parts.{hasElement, hasPointee, hasViewee, references}
 use Rattle.parts.specs.declared.starts.Part.{Part}
 use Rattle.parts.specs.declared.starts.Part.the-variants as part

@@ -9,7 +9,7 @@ use lib.ListN.{length, drop}
 use Rattle.kinds.specs.Kind as kind
 use Rattle.layers.specs.Layers.{Layer, layers, outer, inside}
 use Rattle.layers.specs.Answer.{Answer, given, nothing, refused, next}
-use Rattle.layers.specs.Check.{Place, at, nowhere, badCount, badLayer, misplaced, unless, checkOf}
+use Rattle.checks.specs.Check.{Place, at, nowhere, badCount, badLayer, misplaced, unless, checkOf}
 use Rattle.forms.specs.Formed.{wellFormed}
 use Rattle.equalities.specs.Equalities.{identical}
 use Rattle.coercions.specs.Coercions.{coerces, addressCoerces}

@@ -20,7 +20,7 @@ use Rattle.rounds.specs.Walked.{withSettling, settleWalk}
 use Rattle.planner.specs.Plan.{planOf}
 use Rattle.planner.specs.Demand.{Hidden, Demand}
 use Rattle.planner.proofs.Walks.{asked-append, walker-append, walks, in-order, all-taken}
-use Rattle.layers.proofs.Accepted.{goodLayers}
+use Rattle.checks.proofs.Accepted.{goodLayers}
 use Rattle.planner.proofs.Sound.{walk-sound}
 use Rattle.planner.proofs.Settles.{Exception, settles, asks-nothing}
 

@@ -8,13 +8,13 @@ use native.Mathlib.Omega.{arith}
 use lib.Dec.{ltb}
 use lib.ListN.{length}
 use borrow.Author.Tests.{lt-ltb, le-ltb, ltb-false, not-true, not-false}
-use Rattle.layers.specs.Layers.{layers}
+use Rattle.layers.specs.Layers.{layers, Whole}
 use Rattle.layers.specs.Answer.{Answer, given, refused, next, ofChecked}
-use Rattle.layers.specs.Check.{Place, at, nowhere, badCount, badLayer, misplaced, unless, checkOf}
+use Rattle.checks.specs.Check.{Place, at, nowhere, badCount, badLayer, misplaced, unless, checkOf}
 use Rattle.layers.specs.declared.answers.Checked.{Checked}
 use Rattle.layers.specs.declared.answers.Checked.the-variants.{Good, Refused}
 use Rattle.layers.proofs.Given.{not-given}
-use Rattle.layers.proofs.Accepted.{Whole, accepted-whole}
+use Rattle.checks.proofs.Accepted.{accepted-whole}
 use Rattle.forms.specs.Formed.{wellFormed}
 use Rattle.columns.specs.declared.symbol.Symbol.{Symbol}
 use Rattle.columns.specs.Rows.{readFrom}
@@ -92,8 +92,7 @@ pub all-whole : (ws : List ℕ) (n : ℕ) (store : List ℕ) (b : Bool) → b �
 all-whole ws n store b e h id =
     let ok : inOrder (readFrom ws 0 n) store ≡ true = sym e ∙ not-false b h in
     let few : n ≤ 128 = rw (length-read ws 0 n) at (ordered (readFrom ws 0 n) store ok .few) in
-    let w = member-whole (readFrom ws 0 n) store id ok in
-    rw (at-most ws store n id few) (record { whole = w .1; few = w .0 })
+    rw (at-most ws store n id few) (member-whole (readFrom ws 0 n) store id ok)
 
 pub byte : (n : ℕ) → n < 2 ^ 8 → n ≤ 255
 byte n h = omega arith

@@ -20,9 +20,9 @@ use denote.Ref.{now}
 use denote.Triple.Entry.{Args}
 use Rattle.layers.specs.Layers.{Layer, layers, spelled}
 use Rattle.layers.specs.Answer.{Answer, given, nothing, refused, next}
-use Rattle.layers.specs.Check.{checkOf, isGood}
+use Rattle.checks.specs.Check.{checkOf, isGood}
 use Rattle.layers.proofs.Given.{not-given, nothing-given, given-is}
-use Rattle.layers.proofs.Accepted.{goodLayers, accepted-good}
+use Rattle.checks.proofs.Accepted.{goodLayers, accepted-good}
 use Rattle.layers.proofs.Spelling.{spelled-length, layers-spelled}
 use Rattle.buffers.specs.Written.{written}
 use Rattle.buffers.proofs.Writing.{fits}

@@ -14,7 +14,7 @@ use borrow.Author.Tests.{eqb-true}
 use Rattle.kinds.specs.Kind as kind
 use Rattle.layers.specs.Layers.{Layer, layer, outer, inside}
 use Rattle.layers.specs.Answer.{given}
-use Rattle.layers.specs.Check.{goodLayer}
+use Rattle.checks.specs.Check.{goodLayer}
 use Rattle.parts.specs.Parts.{references}
 use Rattle.sizes.specs.Depth.{pointerDepth}
 use Rattle.forms.specs.Formed.{inner, wellFormed}
@@ -26,7 +26,7 @@ use Rattle.turns.specs.Settling.{Settled, settled, pointer, dereferenced, settl
 use Rattle.turns.proofs.Lines.{lines}
 use Rattle.walker.specs.Walker.{at, Stored, act, walker, arrives}
 use Rattle.planner.specs.Demand.{asked}
-use Rattle.layers.proofs.Accepted.{goodLayers}
+use Rattle.checks.proofs.Accepted.{goodLayers}
 use Rattle.planner.proofs.Sound.{Sound, inner-of}
 
 -- a good layer of the kind Pointer is a Pointer

@@ -10,8 +10,8 @@ use borrow.Author.Tests.{eqb-true}
 use Rattle.kinds.specs.Kind as kind
 use Rattle.layers.specs.Layers.{Layer, outer, inside, isArray, isSlice, isReference, holdsInner}
 use Rattle.layers.specs.Answer.{given, refused}
-use Rattle.layers.specs.Check.{goodLayer}
-use Rattle.layers.proofs.Accepted.{goodLayers}
+use Rattle.checks.specs.Check.{goodLayer}
+use Rattle.checks.proofs.Accepted.{goodLayers}
 use Rattle.layers.proofs.Decide.{both}
 use Rattle.forms.specs.Formed.{inner, element, wellFormed}
 use Rattle.steps.specs.Steps.{Step}

@@ -1,8 +1,8 @@
+use checks::check_type;
 use endings::Report;
 use endings::refuse;
 use forms::is_wellformed;
 use layers::Checked;
-use layers::check_type;
 use orders::in_order;
 use rounds::walk_asked;
 use steps::check_steps;
@@ -10,7 +10,7 @@ ghost use mathlib.Core.Path.{_≡_};
 ghost use Prim.Native.Nat.{_≤_};
 ghost use lib.ListN.{length};
 ghost use Rattle.layers.specs.Answer.{ofChecked};
-ghost use Rattle.layers.proofs.Accepted.{Whole};
+ghost use Rattle.layers.specs.Layers.{Whole};
 ghost use Rattle.columns.specs.Rows.{readFrom};
 ghost use Rattle.endings.specs.Report as report;
 ghost use Rattle.planner.specs.Answers as answers;

@@ -6,10 +6,10 @@ use mathlib.Core.List.{List}
 use Prim.Native.Nat.{ℕ}
 use Rattle.layers.specs.Layers.{Layer, layers}
 use Rattle.layers.specs.Answer.{Answer, refused, ofChecked, next, truth}
-use Rattle.layers.specs.Check.{checkOf}
+use Rattle.checks.specs.Check.{checkOf}
 use Rattle.layers.specs.declared.answers.Checked.{Checked}
 use Rattle.layers.specs.declared.answers.Checked.the-variants.{Good, Refused}
-use Rattle.layers.proofs.Refusals.{refuses, accepts, answered, next-next}
+use Rattle.checks.proofs.Refusals.{refuses, accepts, answered, next-next}
 use Rattle.questions.specs.Answers.{relates, relationAnswer, passes, coercionAnswer}
 use Rattle.questions.specs.declared.relate.Relation.{Relation}
 use Rattle.questions.specs.declared.coerce.Coercion.{Coercion}

@@ -4,7 +4,7 @@ use mathlib.Core.List.{List}
 use Prim.Native.Nat.{ℕ}
 use Rattle.layers.specs.Layers.{Layer, layers}
 use Rattle.layers.specs.Answer.{Answer, next, truth}
-use Rattle.layers.specs.Check.{checkOf}
+use Rattle.checks.specs.Check.{checkOf}
 use Rattle.equalities.specs.Equalities.{identical, equals}
 use Rattle.relations.specs.Relations.{like, declared, concretization}
 use Rattle.coercions.specs.Coercions.{coerces, addressCoerces, autoderefs, subautoderefs}

@@ -6,7 +6,7 @@ use lib.Dec.{eqb}
 use Rattle.kinds.specs.Kind as kind
 use Rattle.layers.specs.Layers.{Layer, layers, outer}
 use Rattle.layers.specs.Answer.{Answer, given, nothing, refused, next, truth}
-use Rattle.layers.specs.Check.{checkOf}
+use Rattle.checks.specs.Check.{checkOf}
 use Rattle.sizes.specs.Known.{knownSize}
 use Rattle.forms.specs.Formed.{wellFormed}
 use Rattle.roles.specs.declared.roles.Role.{Role}

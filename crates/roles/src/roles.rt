@@ -1,8 +1,8 @@
+use checks::check_type;
 use forms::is_wellformed;
 use kinds::Kind;
 use layers::Checked;
 use layers::Verdict;
-use layers::check_type;
 use layers::outer;
 use sizes::Size;
 use sizes::known_size;

@@ -9,9 +9,8 @@ use lib.Dec.{eqb}
 use lib.ListN.{length, take, replicate, length-drop}
 use lib.Seq.{length-take-le}
 use Rattle.kinds.specs.Kind as kind
-use Rattle.layers.specs.Layers.{Layer, layers}
+use Rattle.layers.specs.Layers.{Layer, layers, Whole}
 use Rattle.layers.specs.Answer.{refused}
-use Rattle.layers.proofs.Accepted.{Whole}
 use Rattle.layers.proofs.Spelling.{spelled-length, spelled-layers, layers-drop}
 use Rattle.parts.specs.Parts.{references, fullyDereferenced}
 use Rattle.sizes.specs.Depth.{pointerDepth}

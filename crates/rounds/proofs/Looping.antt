@@ -8,9 +8,8 @@ use native.Mathlib.Omega.{arith}
 use lib.ListN.{length, take, drop, replicate, length-replicate}
 use mir.Syntax.{w64}
 use mir.Val.{Fits}
-use Rattle.layers.specs.Layers.{layers}
+use Rattle.layers.specs.Layers.{layers, Whole}
 use Rattle.layers.specs.Answer.{Answer, refused}
-use Rattle.layers.proofs.Accepted.{Whole}
 use Rattle.steps.proofs.Words.{stepAt}
 use Rattle.turns.specs.declared.turn.Turn.{Turn}
 use Rattle.endings.specs.declared.report.Report.{Report}

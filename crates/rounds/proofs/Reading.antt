@@ -9,9 +9,8 @@ use lib.Dec.{eqb}
 use lib.ListN.{length, getD, take, drop, length-drop, drop-of-length-le, List·getD-eq-default}
 use lib.Seq.{take-all, drop-length}
 use borrow.Author.Tests.{eq-eqb, ne-eqb}
-use Rattle.layers.specs.Layers.{layers, outer, head}
-use Rattle.layers.proofs.Words.{none, more, rest, inner-layers}
-use Rattle.layers.proofs.Accepted.{Whole}
+use Rattle.layers.specs.Layers.{layers, outer, head, Whole}
+use Rattle.layers.proofs.Words.{none, more, rest, inner-layers, inner-whole}
 use Rattle.forms.specs.Formed.{wellFormed}
 use Rattle.steps.proofs.Words.{stepAt}
 use Rattle.turns.specs.Turns.{turn}
@@ -76,10 +75,6 @@ pub to-end-past : (q : List ℕ) (a : ℕ) → length q < a → take (length q -
 to-end-past q a h =
     let l : length q ≤ a = omega arith in
     to-end q (length q) ∙ drop-length q ∙ sym (drop-of-length-le q l)
-
--- the words inside whole layers are whole layers
-pub inner-whole : (ws : List ℕ) → Whole ws → Whole (drop 3 ws)
-inner-whole ws w = let n = length-drop 3 ws in record { whole = omega (arith, n, w .whole); few = omega (arith, n, w .few) }
 
 -- where a round goes on is whole
 pub onto-whole : (members : ℕ → List ℕ) → AllWhole members → (ws : List ℕ) (handle : ℕ) (t : Turn) → Whole ws → Whole (onto members ws handle t)

@@ -1,9 +1,8 @@
 -- The plan of a walk: it is settled where it ended, and delivered where the outputs have room.
 use mathlib.Core.List.{List, _++_}
 use Prim.Native.Nat.{ℕ}
-use Rattle.layers.specs.Layers.{Layer, layers}
+use Rattle.layers.specs.Layers.{Layer, layers, Whole}
 use Rattle.layers.specs.Answer.{Answer, given, nothing, refused}
-use Rattle.layers.proofs.Accepted.{Whole}
 use Rattle.steps.specs.Steps.{Step, steps}
 use Rattle.turns.specs.Settling.{Settled, settle}
 use Rattle.walker.specs.Members.{ofLayers}

@@ -9,7 +9,7 @@ use endings::refuse;
 ghost use mathlib.Core.Path.{_≡_};
 ghost use Prim.Native.Nat.{_≤_, _*_};
 ghost use lib.ListN.{length, drop};
-ghost use Rattle.layers.proofs.Accepted.{Whole};
+ghost use Rattle.layers.specs.Layers.{Whole};
 ghost use Rattle.walker.specs.Members.{memberIn};
 ghost use Rattle.endings.specs.Report as report;
 ghost use Rattle.rounds.specs.Walked.{AllWhole, walked};

@@ -11,7 +11,7 @@ use lib.ListN.{length, take, drop, replicate, drop-of-length-le}
 use lib.Seq.{drop-cons, length-take-le}
 use borrow.Author.Tests.{eqb-true, ne-eqb, eq-eqb}
 use Rattle.layers.specs.Answer.{Answer, given, next, ofChecked}
-use Rattle.layers.specs.Check.{checkOf}
+use Rattle.checks.specs.Check.{checkOf}
 use Rattle.layers.specs.declared.answers.Checked.{Checked}
 use Rattle.layers.specs.declared.answers.Checked.the-variants as checked
 use Rattle.words.specs.Little.{wholeWords}

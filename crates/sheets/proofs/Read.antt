@@ -9,7 +9,7 @@ use lib.Dec.{eqb}
 use lib.ListN.{length}
 use borrow.Author.Tests.{eqb-true}
 use Rattle.layers.specs.Answer.{Answer, given, nothing, refused, next}
-use Rattle.layers.specs.Check.{Place, at, nowhere, unless, badCount, badLayer, misplaced, checkOf}
+use Rattle.checks.specs.Check.{Place, at, nowhere, unless, badCount, badLayer, misplaced, checkOf}
 use Rattle.layers.specs.Layers.{layers}
 use Rattle.layers.proofs.Given.{not-given, given-is}
 use Rattle.words.specs.Little.{wholeWords}

@@ -6,7 +6,7 @@ use lib.Dec.{eqb, leb}
 use lib.ListN.{length, take, drop, getD}
 use Rattle.words.specs.Little.{wholeWords}
 use Rattle.layers.specs.Answer.{Answer, given, refused, next}
-use Rattle.layers.specs.Check.{checkOf}
+use Rattle.checks.specs.Check.{checkOf}
 
 -- From 1 to a limit.
 abbrev pub upTo : ℕ → ℕ → Bool

@@ -1,7 +1,7 @@
 use crate::contents::type_at;
 use crate::contents::types_in;
+use checks::check_type;
 use layers::Checked;
-use layers::check_type;
 use words::words_of;
 ghost use mathlib.Core.Path.{_≡_};
 ghost use Rattle.layers.specs.Answer.{ofChecked};

@@ -6,7 +6,7 @@ use Rattle.kinds.specs.Kind as kind
 use Rattle.kinds.specs.Words.{words}
 use Rattle.layers.specs.Layers.{layers}
 use Rattle.layers.specs.Answer.{given}
-use Rattle.layers.specs.Check.{checkOf, goodLayer, badLayer, misplaced}
+use Rattle.checks.specs.Check.{checkOf, goodLayer, badLayer, misplaced}
 use Rattle.sizes.specs.Depth.{pointerDepth, pointerDepthAnswer}
 
 -- Pointer to SlicePointer of Pointer to Int8

@@ -6,7 +6,7 @@ use lib.Dec.{eqb}
 use Rattle.kinds.specs.Kind as kind
 use Rattle.layers.specs.Layers.{Layer, layers}
 use Rattle.layers.specs.Answer.{Answer, given, next}
-use Rattle.layers.specs.Check.{checkOf}
+use Rattle.checks.specs.Check.{checkOf}
 
 -- "Pointer depth counts Pointer layers from outside, one more for a SlicePointer reached so, and stops at anything else."
 unfoldable pub pointerDepth : List Layer → ℕ

@@ -6,7 +6,7 @@ use lib.Dec.{eqb}
 use Rattle.kinds.specs.Kind as kind
 use Rattle.layers.specs.Layers.{Layer, layers}
 use Rattle.layers.specs.Answer.{Answer, given, nothing, next}
-use Rattle.layers.specs.Check.{checkOf}
+use Rattle.checks.specs.Check.{checkOf}
 
 -- "Known size: 1, 2, 4, 8, 16 for the sized integers, 1 for Char8 and Bool, its number for Word"
 unfoldable pub knownOf : ℕ → ℕ → Answer ℕ

@@ -7,7 +7,7 @@ use Rattle.kinds.specs.Kind as kind
 use Rattle.kinds.specs.Words.{words}
 use Rattle.layers.specs.Layers.{layers}
 use Rattle.layers.specs.Answer.{given, nothing, refused}
-use Rattle.layers.specs.Check.{checkOf, goodLayer, badLayer, misplaced}
+use Rattle.checks.specs.Check.{checkOf, goodLayer, badLayer, misplaced}
 use Rattle.sizes.specs.Known.{knownOf}
 use Rattle.storage.specs.Stored.{storedSize, storedSizeAnswer}
 

@@ -6,7 +6,7 @@ use lib.Dec.{eqb, ltb}
 use Rattle.kinds.specs.Kind as kind
 use Rattle.layers.specs.Layers.{Layer, layers}
 use Rattle.layers.specs.Answer.{Answer, given, nothing, refused, next}
-use Rattle.layers.specs.Check.{checkOf}
+use Rattle.checks.specs.Check.{checkOf}
 use Rattle.sizes.specs.Known.{knownOf}
 
 -- "Usize, Pointer, View 8": the bytes of a pointer. "Slice, SlicePointer 16" is twice that.

@@ -13,9 +13,9 @@ use borrow.Author.Tests.{le-leb}
 use Rattle.layers.specs.Answer as paper
 use Rattle.layers.specs.Answer.{given, refused}
 use Rattle.layers.specs.Layers.{layers}
-use Rattle.layers.specs.Check as check
-use Rattle.layers.specs.Check.{Place, at, nowhere, badCount, badLayer, misplaced, checkOf, isGood}
-use Rattle.layers.proofs.Checks.{start}
+use Rattle.checks.specs.Check as check
+use Rattle.checks.specs.Check.{Place, at, nowhere, badCount, badLayer, misplaced, checkOf, isGood}
+use Rattle.checks.proofs.Checks.{start}
 use Rattle.buffers.specs.Written.{written}
 use Rattle.buffers.proofs.Writing.{fits, length-written}
 use Rattle.columns.specs.declared.symbol.Symbol.{Symbol}

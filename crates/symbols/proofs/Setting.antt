@@ -15,7 +15,7 @@ use Rattle.columns.specs.declared.symbol.Symbol.{Symbol}
 use Rattle.columns.specs.Rows.{vacant, free}
 use Rattle.columns.specs.Search.{firstFree, slotFor}
 use Rattle.orders.specs.Order.{knownStates, allFree, takenFirst, taken, hasId, repeats, passes, allPass}
-use Rattle.layers.specs.Check.{checkOf, isGood}
+use Rattle.checks.specs.Check.{checkOf, isGood}
 use Rattle.layers.proofs.Decide.{both}
 use Rattle.orders.proofs.Ordered.{or-false}
 

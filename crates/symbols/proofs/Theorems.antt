@@ -13,8 +13,8 @@ use borrow.Author.Tests.{ltb-true, ltb-false, eq-eqb, ne-eqb, lt-ltb, le-ltb, lt
 use Rattle.layers.specs.Answer as paper
 use Rattle.layers.specs.Answer.{given, nothing, refused}
 use Rattle.layers.specs.Layers.{layers}
-use Rattle.layers.specs.Check as check
-use Rattle.layers.specs.Check.{Place, at, nowhere, badCount, badLayer, misplaced, checkOf}
+use Rattle.checks.specs.Check as check
+use Rattle.checks.specs.Check.{Place, at, nowhere, badCount, badLayer, misplaced, checkOf}
 use Rattle.equalities.specs.Equalities.{identical}
 use Rattle.relations.specs.Relations.{concretization}
 use Rattle.equalities.proofs.Theorems.{identical-reflexive}

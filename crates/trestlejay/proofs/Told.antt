@@ -1,15 +1,15 @@
 -- What is flattened of an answer, and written behind pointers, by the rule that the answer meets.
 -- Assumes nothing.
-use mathlib.Core.Path.{_≡_, refl, sym, ap, _∙_}
-use mathlib.Core.Bool.{Bool, true, false, _&&_, and-false, false≢true}
+use mathlib.Core.Path.{_≡_, sym, ap, _∙_}
+use mathlib.Core.Bool.{Bool, true, false, _&&_}
 use mathlib.Core.List.{List}
 use Prim.Native.Nat.{ℕ}
 use Rattle.layers.specs.Layers.{layers}
 use Rattle.layers.specs.Answer as paper
-use Rattle.layers.specs.Answer.{given, nothing, refused, next, truth}
-use Rattle.layers.specs.Check.{checkOf, isGood}
+use Rattle.layers.specs.Answer.{next, truth}
+use Rattle.checks.specs.Check.{checkOf, isGood}
 use Rattle.layers.proofs.Decide.{both}
-use Rattle.layers.proofs.Refusals.{passed}
+use Rattle.checks.proofs.Refusals.{passed}
 use Rattle.questions.specs.Answers.{relates, relationAnswer, passes, coercionAnswer}
 use Rattle.questions.specs.declared.relate.Relation.{Relation}
 use Rattle.questions.specs.declared.coerce.Coercion.{Coercion}

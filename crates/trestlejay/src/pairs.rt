@@ -1,13 +1,13 @@
 use answers::Answer;
 use answers::accepted;
 use answers::verdict;
-use layers::is_type;
+use checks::is_type;
 use questions::Coercion;
 use questions::Relation;
 ghost use mathlib.Core.Path.{_≡_};
 ghost use mathlib.Core.Bool.{_&&_};
 ghost use Rattle.layers.specs.Answer.{truth};
-ghost use Rattle.layers.specs.Check.{checkOf, isGood};
+ghost use Rattle.checks.specs.Check.{checkOf, isGood};
 ghost use Rattle.questions.specs.Answers.{coercionAnswer, relationAnswer};
 ghost use Rattle.answers.specs.Flat.{flat};
 

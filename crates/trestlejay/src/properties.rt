@@ -3,7 +3,7 @@ use answers::checked;
 use answers::verdict;
 use forms::Property;
 ghost use mathlib.Core.Path.{_≡_};
-ghost use Rattle.layers.specs.Check.{checkOf};
+ghost use Rattle.checks.specs.Check.{checkOf};
 ghost use Rattle.forms.specs.Formed.{wellFormedAnswer};
 ghost use Rattle.forms.specs.Properties.{propertyAnswer};
 ghost use Rattle.answers.specs.Flat.{flat};
@@ -12,7 +12,7 @@ ghost use Rattle.answers.specs.Flat.{flat};
 pub extern "C" fn tj_check(t: &[u64]) -> Answer
     ensures { λ r. ⌜ r ≡ flat (checkOf (now (t .entry))) ⌝ }
 {
-    checked(layers::check_type(t))
+    checked(checks::check_type(t))
 }
 
 #[no_mangle]

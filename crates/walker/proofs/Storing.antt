@@ -1,19 +1,19 @@
 -- What a table has stored under an id.
 -- Assumes nothing.
 use mathlib.Core.Path.{_≡_, refl, sym, ap, _∙_}
-use mathlib.Core.Bool.{Bool, true, false, cond, not, _&&_, _||_, false≢true}
+use mathlib.Core.Bool.{Bool, true, false, cond, false≢true}
 use mathlib.Core.List.{List, [], _∷_}
-use Prim.Native.Nat.{ℕ, zero, suc, _+_, _*_, _-_, _/_, _%_, _≤_, _<_}
+use Prim.Native.Nat.{ℕ, zero, suc, _+_, _*_, _-_, _/_, _≤_, _<_}
 use native.Mathlib.Nat.{zero-add}
 use native.Mathlib.Omega.{arith}
-use lib.Dec.{eqb, leb, ltb}
+use lib.Dec.{leb}
 use lib.ListN.{length, take, drop, getD, length-drop, drop-of-length-le, List·getD-eq-default}
 use lib.Seq.{take-all, take-nil, length-take-le, drop-drop}
-use borrow.Author.Tests.{lt-ltb, le-ltb, ltb-false, eq-eqb, ne-eqb, eqb-true}
-use Rattle.layers.specs.Layers.{layers}
-use Rattle.layers.specs.Answer.{given, refused}
+use borrow.Author.Tests.{lt-ltb, le-ltb, eq-eqb, ne-eqb}
+use Rattle.layers.specs.Layers.{Whole}
 use Rattle.layers.proofs.Decide.{yes, both}
-use Rattle.layers.specs.Check.{checkOf, badLayer, misplaced, unless, isGood}
+use Rattle.checks.specs.Check.{checkOf, isGood}
+use Rattle.checks.proofs.Accepted.{good-whole}
 use Rattle.columns.specs.Rows.{vacant, rowAt, readFrom, typed}
 use Rattle.columns.specs.Search.{slotIn, slotFor}
 use Rattle.orders.specs.Order.{passes, allPass, inOrder}
@@ -21,7 +21,7 @@ use Rattle.columns.specs.declared.symbol.Symbol.{Symbol}
 use Rattle.columns.proofs.Reading.{getD-read, length-read}
 use Rattle.columns.proofs.Searching.{slot-is}
 use Rattle.orders.proofs.Ordered.{ordered}
-use Rattle.walker.specs.Members.{wordsAt, memberWords, memberIn, askedIn, Whole}
+use Rattle.walker.specs.Members.{wordsAt, memberWords, memberIn, askedIn}
 
 -- the part of a run from a word on, as the code takes it
 abbrev part : List ℕ → ℕ → List ℕ
@@ -98,19 +98,6 @@ pass-at (s ∷ table) store (suc k) e =
     let m : suc k * 48 ≡ 48 + k * 48 = omega arith in
     rw (m, ← drop-drop (k * 48) 48 store) (pass-at table (drop 48 store) k (both (passes (s .state) (s .layers) store) (allPass table (drop 48 store)) e .1))
 
--- whole layers, at most sixteen
-pub good-whole : (ws : List ℕ) → isGood (checkOf ws) ≡ true → Whole ws
-unfolding checkOf
-good-whole ws e = by-count (eqb (length ws) 0) (ltb 48 (length ws)) (eqb (length ws % 3) 0) refl refl e
-  where
-    by-count : (a b c : Bool) → ltb 48 (length ws) ≡ b → eqb (length ws % 3) 0 ≡ c →
-        isGood (cond (a || b || not c) (refused 1 0) (unless (badLayer 0 (layers ws)) 2 (unless (misplaced 0 (layers ws)) 3 (given (length ws / 3))))) ≡ true →
-        Whole ws
-    by-count false false true p q e = (ltb-false 48 (length ws) p, eqb-true (length ws % 3) 0 q)
-    by-count false false false p q e = absurd (false≢true e)
-    by-count false true c p q e = absurd (false≢true e)
-    by-count true b c p q e = absurd (false≢true e)
-
 -- what is stored in a table that is in order
 pub member-whole : (table : List Symbol) (store : List ℕ) (id : ℕ) → inOrder table store ≡ true → Whole (memberWords table store id)
 unfolding memberWords passes
@@ -129,4 +116,4 @@ member-whole table store id e = by-state (typed s) refl (pass-at table store k (
     by-state : (f : Bool) → typed s ≡ f → cond f (cond (leb (s .layers) 16) (isGood (checkOf (take (s .layers * 3) (drop (k * 48) store)))) false) true ≡ true →
         Whole (cond f (take (s .layers * 3) (drop (k * 48) store)) [])
     by-state true p q = by-layers (leb (s .layers) 16) q
-    by-state false p q = (omega arith, refl)
+    by-state false p q = record { whole = refl; few = omega arith }

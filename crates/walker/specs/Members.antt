@@ -1,10 +1,9 @@
 -- "Member from Struct or Word to the table's type": what a table has of a member. "A member is found by its id alone".
-use mathlib.Core.Path.{_≡_}
 use mathlib.Core.Bool.{cond}
 use mathlib.Core.List.{List, [], _∷_}
-use Prim.Native.Nat.{ℕ, _*_, _%_, _≤_}
+use Prim.Native.Nat.{ℕ, _*_}
 use lib.Dec.{eqb, ltb}
-use lib.ListN.{length, take, drop, getD}
+use lib.ListN.{take, drop, getD}
 use Rattle.layers.specs.Layers.{Layer, layers}
 use Rattle.columns.specs.declared.symbol.Symbol.{Symbol}
 use Rattle.columns.specs.Rows.{vacant, readFrom, typed}
@@ -35,7 +34,3 @@ ofLayers (x ∷ t) = walker.typed (x ∷ t)
 
 unfoldable pub members : List Symbol → List ℕ → ℕ → Stored
 members table store id = ofLayers (layers (memberWords table store id))
-
--- Words of whole layers, at most sixteen.
-abbrev pub Whole : List ℕ → Type 0
-Whole ws = (length ws ≤ 48) × (length ws % 3 ≡ 0)

@@ -8,10 +8,11 @@ use native.Mathlib.Omega.{arith}
 use lib.Dec.{eqb, leb}
 use lib.ListN.{length, drop, getD, drop-of-length-le}
 use borrow.Author.Tests.{eq-eqb}
-use Rattle.layers.specs.Layers.{Layer, layers, outer}
+use Rattle.layers.specs.Layers.{Layer, layers, outer, Whole}
 use Rattle.layers.specs.Answer as paper
 use Rattle.layers.specs.Answer.{refused, ofChecked, next}
-use Rattle.layers.specs.Check.{checkOf, isGood}
+use Rattle.checks.specs.Check.{checkOf}
+use Rattle.checks.proofs.Accepted.{accepted-whole}
 use Rattle.layers.specs.declared.answers.Checked.{Checked}
 use Rattle.layers.specs.declared.answers.Checked.the-variants.{Good, Refused}
 use Rattle.columns.specs.Rows.{readFrom}
@@ -27,10 +28,10 @@ use Rattle.steps.specs.Steps.{steps, stepsAnswer}
 use Rattle.steps.proofs.Words.{steps-none}
 use Rattle.steps.proofs.Passing.{here, at-word, steps-whole}
 use Rattle.walker.specs.Walker.{at, Stored}
-use Rattle.walker.specs.Members.{memberIn, askedIn, ofLayers, members, Whole}
+use Rattle.walker.specs.Members.{memberIn, askedIn, ofLayers, members}
 use Rattle.moves.specs.Moves.{moveOf, seen, onward, desliced, sticks, moved, Current}
 use Rattle.moves.specs.declared.motion.Move.{Move}
-use Rattle.walker.proofs.Storing.{at-most, good-whole, member-whole}
+use Rattle.walker.proofs.Storing.{at-most, member-whole}
 use Rattle.moves.proofs.Acting.{acts, moves-on}
 use Rattle.walks.specs.Walked.{unlessStuck, walkedFrom, arrived, walkFrom, walkOrdered, walkTo, delivered, over}
 use Rattle.walks.proofs.Arriving.{Tells}
@@ -64,7 +65,7 @@ module _ (columns store : List ℕ) (n : ℕ) (o : inOrder (readFrom columns 0 n
     where
       by-kind : (f : Bool) → Whole (cond f (memberIn columns n store id) [])
       by-kind true = rw (at-most columns store n id few) (member-whole (readFrom columns 0 n) store id o)
-      by-kind false = (omega arith, refl)
+      by-kind false = record { whole = refl; few = omega arith }
 
 -- one step: k is the outer kind, l the kind inside, m the member's words, x the move
 module _ (columns known ws store : List ℕ) (n : ℕ) (cur : List ℕ) (b : Bool) (word : ℕ)
@@ -154,14 +155,8 @@ module _ (known ws store : List ℕ) (address : Bool) (table : List Symbol) wher
 -- words that pass
 module _ (x : Checked) (ws : List ℕ) (i : ℕ) (t : x ≡ Good i) where
   module _ (e : ofChecked x ≡ checkOf ws) where
-    type-whole : Whole ws
-    type-whole = let good : isGood (checkOf ws) ≡ true = rw (← e, t) refl in good-whole ws good
-
-    pub type-few : length ws ≤ 48
-    type-few = type-whole .0
-
-    pub type-threes : length ws % 3 ≡ 0
-    type-threes = type-whole .1
+    pub type-whole : Whole ws
+    type-whole = accepted-whole ws i (sym e ∙ ap ofChecked t)
 
   pub steps-fours : (most : ℕ) → ofChecked x ≡ stepsAnswer most ws → length ws % 4 ≡ 0
   steps-fours most e = steps-whole most ws i (sym e ∙ ap ofChecked t)

@@ -10,7 +10,7 @@ use lib.ListN.{length, take, getD}
 use Rattle.kinds.specs.Kind as kind
 use Rattle.layers.specs.Layers.{Layer, layer, layers}
 use Rattle.layers.specs.Answer.{Answer, given, nothing, refused, next}
-use Rattle.layers.specs.Check.{checkOf}
+use Rattle.checks.specs.Check.{checkOf}
 use Rattle.orders.specs.Order.{inOrder}
 use Rattle.columns.specs.declared.symbol.Symbol.{Symbol}
 use Rattle.steps.specs.Steps.{Step, step, steps, stepsAnswer}

@@ -7,7 +7,7 @@ use lib.ListN.{length}
 use Rattle.kinds.specs.Kind as kind
 use Rattle.layers.specs.Layers.{Layer, layer, layers, spelled}
 use Rattle.layers.specs.Answer.{Answer, given, nothing, refused, next}
-use Rattle.layers.specs.Check.{checkOf}
+use Rattle.checks.specs.Check.{checkOf}
 use Rattle.buffers.specs.Written.{written}
 use Rattle.columns.specs.declared.symbol.Symbol.{Symbol}
 use Rattle.orders.specs.Order.{inOrder}

@@ -1,8 +1,8 @@
 use crate::arrival::arrive;
 use answers::Answer;
 use answers::refused;
+use checks::check_type;
 use layers::Checked;
-use layers::check_type;
 use layers::inner;
 use layers::outer;
 use moves::go;
@@ -20,7 +20,7 @@ ghost use lib.ListN.{length};
 ghost use Rattle.columns.specs.Rows.{readFrom};
 ghost use Rattle.orders.specs.Order.{inOrder};
 ghost use Rattle.answers.specs.Flat.{flat};
-ghost use Rattle.walker.specs.Members.{Whole};
+ghost use Rattle.layers.specs.Layers.{Whole};
 ghost use Rattle.walks.specs.Walked as rules;
 
 // The most steps that the walker takes.

@@ -1,10 +1,10 @@
 use crate::operations::Operation;
 use crate::operations::offers_type;
 use crate::operations::puts_nothing;
+use checks::check_type;
 use columns::first_free;
 use columns::slot_of;
 use layers::Checked;
-use layers::check_type;
 use orders::in_order;
 ghost use mathlib.Core.Path.{_≡_};
 ghost use Rattle.layers.specs.Answer.{ofChecked};

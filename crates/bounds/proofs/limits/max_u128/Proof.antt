@@ -1,5 +1,5 @@
 use borrow.Author.Needs.{needs}
-use Rattle.layers.proofs.Refusals.{refuses, accepts}
+use Rattle.checks.proofs.Refusals.{refuses, accepts}
 use Rattle.bounds.specs.Bounds.{highestAnswer}
 use Rattle.bounds.proofs.limits.max_u128.Statement.{statement}
 use Rattle.bounds.proofs.limits.max_u128.Tie as tie

@@ -1,5 +1,5 @@
 use borrow.Author.Needs.{needs}
-use Rattle.layers.proofs.Refusals.{refuses, accepts}
+use Rattle.checks.proofs.Refusals.{refuses, accepts}
 use Rattle.bounds.specs.Bounds.{lowestAnswer}
 use Rattle.bounds.proofs.limits.min_i128.Statement.{statement}
 use Rattle.bounds.proofs.limits.min_i128.Tie as tie

@@ -1,5 +1,5 @@
 use borrow.Author.Needs.{needs}
-use Rattle.layers.proofs.Refusals.{refuses, accepts, answered}
+use Rattle.checks.proofs.Refusals.{refuses, accepts, answered}
 use Rattle.forms.specs.Formed.{wellFormedAnswer}
 use Rattle.forms.proofs.formed.wellformed.Statement.{statement}
 use Rattle.forms.proofs.formed.wellformed.Tie as tie

@@ -1,5 +1,5 @@
 use borrow.Author.Needs.{needs}
-use Rattle.layers.proofs.Refusals.{refuses, accepts, answered}
+use Rattle.checks.proofs.Refusals.{refuses, accepts, answered}
 use Rattle.forms.proofs.Told.{property-at}
 use Rattle.forms.specs.Properties.{propertyAnswer}
 use Rattle.forms.proofs.properties.has.Statement.{statement}

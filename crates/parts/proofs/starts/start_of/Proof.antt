@@ -1,6 +1,6 @@
 use borrow.Author.Needs.{needs}
 use Rattle.parts.specs.Starts.{startAnswer}
-use Rattle.layers.proofs.Refusals.{refuses, accepts}
+use Rattle.checks.proofs.Refusals.{refuses, accepts}
 use Rattle.parts.proofs.starts.start_of.Statement.{statement}
 use Rattle.parts.proofs.starts.start_of.Tie as tie
 

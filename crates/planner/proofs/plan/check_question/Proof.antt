@@ -1,7 +1,7 @@
 use borrow.Author.Needs.{needs}
 use Rattle.planner.proofs.plan.check_question.Statement.{statement}
 use Rattle.planner.proofs.plan.check_question.Tie as tie
-use Rattle.layers.proofs.Refusals.{refuses, accepts}
+use Rattle.checks.proofs.Refusals.{refuses, accepts}
 
 pub check-question-spec : {M : Type 1} → statement M
 check-question-spec =

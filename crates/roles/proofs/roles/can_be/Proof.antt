@@ -1,5 +1,5 @@
 use borrow.Author.Needs.{needs}
-use Rattle.layers.proofs.Refusals.{refuses, accepts, answered}
+use Rattle.checks.proofs.Refusals.{refuses, accepts, answered}
 use Rattle.roles.specs.Roles.{roleAnswer}
 use Rattle.roles.proofs.Told.{role-told}
 use Rattle.roles.proofs.roles.can_be.Statement.{statement}

@@ -1,5 +1,5 @@
 use borrow.Author.Needs.{needs}
-use Rattle.layers.proofs.Refusals.{refuses, accepts}
+use Rattle.checks.proofs.Refusals.{refuses, accepts}
 use Rattle.sizes.specs.Depth.{pointerDepthAnswer}
 use Rattle.sizes.proofs.depths.pointer_depth.Statement.{statement}
 use Rattle.sizes.proofs.depths.pointer_depth.Tie as tie

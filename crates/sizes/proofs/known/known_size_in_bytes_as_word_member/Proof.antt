@@ -1,5 +1,5 @@
 use borrow.Author.Needs.{needs}
-use Rattle.layers.proofs.Refusals.{refuses, accepts}
+use Rattle.checks.proofs.Refusals.{refuses, accepts}
 use Rattle.sizes.specs.Known.{knownSizeAnswer}
 use Rattle.sizes.proofs.known.known_size_in_bytes_as_word_member.Statement.{statement}
 use Rattle.sizes.proofs.known.known_size_in_bytes_as_word_member.Tie as tie

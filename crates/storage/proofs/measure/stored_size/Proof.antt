@@ -1,5 +1,5 @@
 use borrow.Author.Needs.{needs}
-use Rattle.layers.proofs.Refusals.{refuses, accepts}
+use Rattle.checks.proofs.Refusals.{refuses, accepts}
 use Rattle.storage.specs.Stored.{storedSizeAnswer}
 use Rattle.storage.proofs.measure.stored_size.Statement.{statement}
 use Rattle.storage.proofs.measure.stored_size.Tie as tie

@@ -1,4 +1,4 @@
-use Rattle.walks.proofs.Stepping.{tells-same, tells-refused, no-type, no-steps, checked, type-few, type-threes, steps-fours}
+use Rattle.walks.proofs.Stepping.{tells-same, tells-refused, no-type, no-steps, checked, type-whole, steps-fours}
 use borrow.Author.Needs.{needs}
 use Rattle.walks.proofs.taking.walk_among.Statement.{statement}
 use Rattle.walks.proofs.taking.walk_among.Tie as tie
@@ -15,7 +15,7 @@ walk-among-spec =
     (λ c. search needs)
     (λ c κs. search needs)
     (λ c. search needs)
-    (λ c κs. ((search type-few, search type-threes), search steps-fours))
+    (λ c κs. (search type-whole, search steps-fours))
     (λ c. tells-refused _ _ _ _ _ (c .refused .ensures) (search no-type))
     (λ c. tells-refused _ _ _ _ _ (c .refused2 .ensures) (search no-steps))
     (λ c. search needs)

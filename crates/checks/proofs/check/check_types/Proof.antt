@@ -1,0 +1,14 @@
+use borrow.Author.Needs.{needs}
+use Rattle.checks.proofs.Refusals.{left-passes, left-fails}
+use Rattle.checks.proofs.check.check_types.Statement.{statement}
+use Rattle.checks.proofs.check.check_types.Tie as tie
+
+pub check-types-spec : {M : Type 1} → statement M
+check-types-spec =
+    tie.close
+    (tie.spec
+    (λ c κs. search needs)
+    (λ c κs. search needs)
+    (λ c κs. search needs)
+    (λ c. search left-passes)
+    (λ c. search left-fails))

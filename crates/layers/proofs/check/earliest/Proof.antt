@@ -1,6 +1,0 @@
-use Rattle.layers.proofs.Decide.{yes, no}
-use Rattle.layers.proofs.check.earliest.Statement.{statement}
-use Rattle.layers.proofs.check.earliest.Tie as tie
-
-pub earliest-spec : {M : Type 1} → statement M
-earliest-spec = tie.close (tie.spec (λ c. search yes) (λ c. search no))
