@@ -9,6 +9,7 @@ use crate::sheet_face;
 use crate::small::*;
 use crate::types::*;
 use crate::words::{ARRAYLIKE, BOOL, CHAR8, POINTER, UINT8, VIEW};
+use std::thread;
 
 #[derive(Default)]
 struct Tally {
@@ -83,6 +84,25 @@ impl Tallies {
 
 /// How many cases passed and how many failed.
 pub fn compare(scale: u64, seed: u64) -> (u64, u64) {
+    // Each part draws from its own random numbers, so the parts run side by side.
+    thread::scope(|scope| {
+        let types = scope.spawn(|| types(scale, seed));
+        let parts = [
+            scope.spawn(|| records::compare(scale, &mut Random::new(seed))),
+            scope.spawn(|| plans::compare(scale, &mut Random::new(seed))),
+            scope.spawn(|| sheet_face::compare(scale, &mut Random::new(seed))),
+        ];
+        let types = types.join().expect("the questions about types end");
+        let others: Vec<_> = parts
+            .into_iter()
+            .flat_map(|part| part.join().expect("each part ends"))
+            .collect();
+        report(&types.0, &others)
+    })
+}
+
+/// The questions about types, and extern fixing.
+fn types(scale: u64, seed: u64) -> Tallies {
     let mut tallies = Tallies((0..QUESTIONS.len()).map(|_| Tally::default()).collect());
     small(&mut tallies);
     long(&mut tallies);
@@ -90,10 +110,7 @@ pub fn compare(scale: u64, seed: u64) -> (u64, u64) {
     random(&mut tallies, scale, &mut Random::new(seed));
     fixing(&mut tallies);
     random_fixing(&mut tallies, scale, &mut Random::new(seed));
-    let mut symbols = records::compare(scale, &mut Random::new(seed));
-    symbols.extend(plans::compare(scale, &mut Random::new(seed)));
-    symbols.extend(sheet_face::compare(scale, &mut Random::new(seed)));
-    report(&tallies.0, &symbols)
+    tallies
 }
 
 /// Every small type and every pair of small types.
