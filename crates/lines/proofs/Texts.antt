@@ -6,7 +6,7 @@ use Prim.Native.Nat.{ℕ, _+_, _*_, _≤_, _<_}
 use native.Mathlib.Omega.{arith}
 use native.Mathlib.Nat.{zero-add}
 use lib.ListN.{length, length-append}
-use Rattle.sheets.specs.Sheet.{types, typeAt}
+use Rattle.contents.specs.Contents.{types, typeAt}
 use Rattle.texts.specs.Put.{putAt, decimal}
 use Rattle.lines.specs.Text.{answers, line, row, rows, header, refusedText, refusal}
 use Rattle.texts.proofs.Putting.{Put, Did, then, fitted, room, digits-few}

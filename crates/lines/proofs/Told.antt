@@ -13,7 +13,8 @@ use Rattle.layers.specs.Answer.{given, refused, ofChecked}
 use Rattle.layers.specs.declared.answers.Checked.{Checked}
 use Rattle.layers.specs.declared.answers.Checked.the-variants as checked
 use Rattle.words.specs.Little.{wholeWords}
-use Rattle.sheets.specs.Sheet.{types, readSheet}
+use Rattle.contents.specs.Contents.{types}
+use Rattle.sheets.specs.Sheet.{readSheet}
 use Rattle.sheets.proofs.Read.{Read, was-read, small-number}
 use Rattle.words.proofs.Decoding.{words-back}
 use Rattle.texts.specs.Put.{putAt}

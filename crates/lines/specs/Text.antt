@@ -9,7 +9,8 @@ use Rattle.equalities.specs.Equalities.{equals}
 use Rattle.relations.specs.Relations as relation
 use Rattle.coercions.specs.Coercions as coercion
 use Rattle.words.specs.Little.{wholeWords}
-use Rattle.sheets.specs.Sheet.{types, readSheet}
+use Rattle.contents.specs.Contents.{types}
+use Rattle.sheets.specs.Sheet.{readSheet}
 
 abbrev space : ℕ
 space = 32

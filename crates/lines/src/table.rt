@@ -1,7 +1,7 @@
 use crate::line::put_line;
+use contents::type_at;
 use layers::Checked;
 use sheets::read_sheet;
-use sheets::type_at;
 use texts::put;
 use texts::put_number;
 use words::words_of;
@@ -10,7 +10,7 @@ ghost use mathlib.Core.List.{_++_};
 ghost use Prim.Native.Nat.{_+_, _*_, _≤_, _<_};
 ghost use lib.ListN.{length, take};
 ghost use Rattle.buffers.specs.Written.{written};
-ghost use Rattle.sheets.specs.Sheet.{types, typeAt};
+ghost use Rattle.contents.specs.Contents.{types, typeAt};
 ghost use Rattle.texts.specs.Put.{putAt};
 ghost use Rattle.lines.specs.Text as text;
 

@@ -15,12 +15,13 @@ use Rattle.checks.specs.Check.{checkOf}
 use Rattle.layers.specs.declared.answers.Checked.{Checked}
 use Rattle.layers.specs.declared.answers.Checked.the-variants as checked
 use Rattle.words.specs.Little.{wholeWords}
-use Rattle.sheets.specs.Sheet.{isSheet, count, typesIn, types, typeAt, checkAll, badSheet, readWords, readSheet}
-use Rattle.sheets.proofs.Shape.{sheet-known}
+use Rattle.contents.specs.Contents.{isSheet, count, typesIn, types, typeAt}
+use Rattle.sheets.specs.Sheet.{checkAll, badSheet, readWords, readSheet}
+use Rattle.contents.proofs.Shape.{sheet-known}
 use Rattle.buffers.specs.Written.{written}
 use Rattle.buffers.proofs.Writing.{length-written}
 use Rattle.words.proofs.Decoding.{length-words, words-back}
-use Rattle.sheets.proofs.Places.{how-many, sheet-short}
+use Rattle.contents.proofs.Places.{how-many, sheet-short}
 
 module _ (ws : List ℕ) (n : ℕ) (e : n ≡ typesIn ws) where
   pub no-sheet : n ≡ 0 → (r : Answer ℕ) → r ≡ badSheet → r ≡ readWords ws

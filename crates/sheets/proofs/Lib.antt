@@ -1,7 +1,4 @@
--- What follows from the definition of a sheet.
-pub mod Counts
-pub mod Shape
-pub mod Places
+-- What the proofs of several functions use, and what is known of what was read.
 pub mod Checking
 pub mod Read
 pub mod Single

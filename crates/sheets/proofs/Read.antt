@@ -13,10 +13,11 @@ use Rattle.checks.specs.Check.{Place, at, nowhere, unless, badCount, badLayer, 
 use Rattle.layers.specs.Layers.{layers}
 use Rattle.layers.proofs.Given.{not-given, given-is}
 use Rattle.words.specs.Little.{wholeWords}
-use Rattle.sheets.specs.Sheet.{isSheet, count, typesIn, types, checkAll, badSheet, readWords, readSheet}
+use Rattle.contents.specs.Contents.{isSheet, count, typesIn, types}
+use Rattle.sheets.specs.Sheet.{checkAll, badSheet, readWords, readSheet}
 use Rattle.words.proofs.Decoding.{length-words}
-use Rattle.sheets.proofs.Shape.{sheet-known}
-use Rattle.sheets.proofs.Places.{how-many, sheet-short}
+use Rattle.contents.proofs.Shape.{sheet-known}
+use Rattle.contents.proofs.Places.{how-many, sheet-short}
 
 abbrev number : Answer ℕ → ℕ
 number (given v) = 0

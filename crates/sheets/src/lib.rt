@@ -1,7 +1,5 @@
-// Sheets of types: where each type's words stand, and the refusals.
-mod contents;
+// Sheets of types: how their words and bytes are read, and the refusals.
 mod reading;
 
-pub use contents::type_at;
 pub use reading::read_sheet;
 pub use reading::read_words;

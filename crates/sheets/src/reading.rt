@@ -1,6 +1,6 @@
-use crate::contents::type_at;
-use crate::contents::types_in;
 use checks::check_type;
+use contents::type_at;
+use contents::types_in;
 use layers::Checked;
 use words::words_of;
 ghost use mathlib.Core.Path.{_≡_};

@@ -2,7 +2,7 @@ use borrow.Author.Needs.{needs}
 use Rattle.lines.proofs.table.put_row.Statement.{statement}
 use Rattle.lines.proofs.table.put_row.Tie as tie
 use Prim.Native.Nat.{_-_}
-use Rattle.sheets.specs.Sheet.{types}
+use Rattle.contents.specs.Contents.{types}
 use Rattle.lines.proofs.Rows.{Going}
 use Rattle.lines.proofs.Texts.{lineOf, row-begin, row-room, row-on, row-same, row-end}
 

@@ -2,7 +2,7 @@ use borrow.Author.Needs.{needs}
 use Rattle.lines.proofs.table.put_rows.Statement.{statement}
 use Rattle.lines.proofs.table.put_rows.Tie as tie
 use Prim.Native.Nat.{_-_}
-use Rattle.sheets.specs.Sheet.{types}
+use Rattle.contents.specs.Contents.{types}
 use Rattle.lines.specs.Text.{row}
 use Rattle.lines.proofs.Rows.{Going}
 use Rattle.lines.proofs.Texts.{table-begin, table-room, table-on, table-same, table-end}

@@ -5,7 +5,8 @@ use Prim.Native.Nat.{_-_}
 use mathlib.Core.Path.{_≡_}
 use lib.ListN.{drop}
 use Rattle.layers.specs.Answer.{given}
-use Rattle.sheets.specs.Sheet.{types, checkAll, readWords}
+use Rattle.contents.specs.Contents.{types}
+use Rattle.sheets.specs.Sheet.{checkAll, readWords}
 use Rattle.sheets.proofs.Checking.{no-sheet, check-begin, refused-here, check-more, check-end}
 
 abbrev Inv-loop : tie.InvT-loop

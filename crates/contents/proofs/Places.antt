@@ -7,9 +7,9 @@ use Prim.Native.Nat.{ℕ, zero, suc, _+_, _*_, _-_, _^_, _≤_, _<_}
 use native.Mathlib.Omega.{arith}
 use lib.ListN.{length, take, drop, getD, List·getD-eq-default}
 use lib.Seq.{take-take, drop-drop, getD-take, getD-drop}
-use Rattle.sheets.specs.Sheet.{total, isSheet, count, layerCounts, typesIn, bodies, types, typeAt}
-use Rattle.sheets.proofs.Counts.{measured, good-front, total-front, total-positive, total-few, good-at}
-use Rattle.sheets.proofs.Shape.{countsTo, counts-to, length-counts, Sheet, sheet-known}
+use Rattle.contents.specs.Contents.{total, isSheet, count, layerCounts, typesIn, bodies, types, typeAt}
+use Rattle.contents.proofs.Counts.{measured, good-front, total-front, total-positive, total-few, good-at}
+use Rattle.contents.proofs.Shape.{countsTo, counts-to, length-counts, Sheet, sheet-known}
 
 pub length-bodies : (cs ws : List ℕ) → length (bodies cs ws) ≡ length cs
 unfolding bodies

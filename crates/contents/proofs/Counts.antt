@@ -12,7 +12,7 @@ use lib.ListN.{length, take, drop, getD, drop-of-length-le}
 use lib.Seq.{drop-cons}
 use borrow.Author.Tests.{leb-true}
 use Rattle.layers.proofs.Decide.{both}
-use Rattle.sheets.specs.Sheet.{upTo, goodCounts, total}
+use Rattle.contents.specs.Contents.{upTo, goodCounts, total}
 
 abbrev pub measured : List ℕ → ℕ
 measured cs = cond (goodCounts cs) (total cs) 0

@@ -2,7 +2,7 @@ ghost use mathlib.Core.Path.{_≡_};
 ghost use mathlib.Core.Bool.{cond};
 ghost use Prim.Native.Nat.{_≤_};
 ghost use lib.ListN.{length};
-ghost use Rattle.sheets.specs.Sheet as sheet;
+ghost use Rattle.contents.specs.Contents as sheet;
 
 // Whether a count is from 1 to a limit.
 fn up_to(most: u64, n: u64) -> bool
@@ -31,7 +31,7 @@ fn total(counts: &[u64]) -> usize
 }
 
 // How many types a sheet has; 0 where the counts are not those of a sheet, or a word is missing or left over.
-pub(crate) fn types_in(words: &[u64]) -> usize
+pub fn types_in(words: &[u64]) -> usize
     ensures is { λ r. ⌜ r ≡ sheet.typesIn (now (words .entry)) ⌝ }
     ensures few { λ r. ⌜ r ≤ 32 ⌝ }
 {

@@ -1,7 +1,7 @@
 use borrow.Author.Needs.{needs}
-use Rattle.sheets.proofs.contents.type_at.Statement.{statement}
-use Rattle.sheets.proofs.contents.type_at.Tie as tie
-use Rattle.sheets.proofs.Places.{no-type, counted, counted-to, small-fits, end-fits, in-the-sheet, type-is}
+use Rattle.contents.proofs.bodies.type_at.Statement.{statement}
+use Rattle.contents.proofs.bodies.type_at.Tie as tie
+use Rattle.contents.proofs.Places.{no-type, counted, counted-to, small-fits, end-fits, in-the-sheet, type-is}
 
 pub type-at-spec : {M : Type 1} → statement M
 type-at-spec =

@@ -1,8 +1,8 @@
 use borrow.Author.Needs.{needs}
-use Rattle.sheets.proofs.contents.types_in.Statement.{statement}
-use Rattle.sheets.proofs.contents.types_in.Tie as tie
+use Rattle.contents.proofs.bodies.types_in.Statement.{statement}
+use Rattle.contents.proofs.bodies.types_in.Tie as tie
 use borrow.Author.Tests.{not-true, not-false}
-use Rattle.sheets.proofs.Shape.{no-words, bad-number, too-few, few, few-counts, all-there, not-all-there}
+use Rattle.contents.proofs.Shape.{no-words, bad-number, too-few, few, few-counts, all-there, not-all-there}
 
 pub types-in-spec : {M : Type 1} → statement M
 types-in-spec =

@@ -10,8 +10,8 @@ use lib.ListN.{length, take, drop, length-drop}
 use lib.Seq.{length-take-le}
 use borrow.Author.Tests.{eqb-true, ne-eqb}
 use Rattle.layers.proofs.Decide.{both}
-use Rattle.sheets.specs.Sheet.{upTo, goodCounts, total, isSheet, typesIn, count, layerCounts}
-use Rattle.sheets.proofs.Counts.{measured, at-least, at-most, total-positive}
+use Rattle.contents.specs.Contents.{upTo, goodCounts, total, isSheet, typesIn, count, layerCounts}
+use Rattle.contents.proofs.Counts.{measured, at-least, at-most, total-positive}
 
 -- the layer counts as the code takes them
 abbrev pub countsTo : ℕ → List ℕ → List ℕ

@@ -1,10 +1,10 @@
 use borrow.Author.Needs.{needs}
 use borrow.Author.Tests.{not-true, not-false}
-use Rattle.sheets.proofs.contents.total.Statement.{statement}
-use Rattle.sheets.proofs.contents.total.Tie as tie
+use Rattle.contents.proofs.bodies.total.Statement.{statement}
+use Rattle.contents.proofs.bodies.total.Tie as tie
 use lib.ListN.{length}
 use Prim.Native.Nat.{_-_}
-use Rattle.sheets.proofs.Counts.{Summed, none-yet, bad-count, good-count, room, summed, few-layers}
+use Rattle.contents.proofs.Counts.{Summed, none-yet, bad-count, good-count, room, summed, few-layers}
 
 abbrev Inv-loop : tie.InvT-loop
 Inv-loop counts sum₀ i₀ sum i = Summed counts sum i
