@@ -6,7 +6,7 @@ use walks::walk;
 ghost use mathlib.Core.Path.{_≡_};
 ghost use lib.ListN.{length};
 ghost use Rattle.answers.specs.Flat.{flat};
-ghost use Rattle.endings.specs.Report as report;
+ghost use Rattle.reports.specs.Report as report;
 ghost use Rattle.planner.specs.Answers as answers;
 ghost use Rattle.arrivals.specs.Arrived as arrivals;
 ghost use Rattle.walks.specs.Walked as walks;
