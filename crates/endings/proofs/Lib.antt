@@ -1,4 +1,3 @@
 -- What the proofs of several functions use.
-pub mod Delivering
 pub mod Numbers
 pub mod Single

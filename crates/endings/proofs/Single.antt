@@ -1,5 +1,5 @@
--- Each public contract allows one outcome: any two that it allows of the same arguments coincide, in the result and in what
--- was lent.
+-- Each public contract allows one result: any two that it allows of the same arguments coincide. Of a part that is
+-- handed back, the words coincide.
 -- Assumes nothing.
 use mathlib.Core.Path.{_≡_, sym, _∙_}
 use contract.Lifetimes.{Lfts}
@@ -7,17 +7,10 @@ use denote.Ref.{now}
 use denote.Triple.Clauses.{AtExit}
 use borrow.Fn.Kinds.{Dens, resT, endedOf}
 use Rattle.layers.proofs.Single.{Single}
-use Rattle.endings.proofs.delivery.refuse.Kinds as refuse-kinds
-use Rattle.endings.proofs.delivery.refuse.Reads as refuse
-use Rattle.endings.proofs.delivery.deliver.Kinds as deliver-kinds
-use Rattle.endings.proofs.delivery.deliver.Reads as deliver
 use Rattle.endings.proofs.ending.ending_of.Kinds as ending-of-kinds
 use Rattle.endings.proofs.ending.ending_of.Reads as ending-of
 use Rattle.endings.proofs.ending.body_of.Kinds as body-of-kinds
 use Rattle.endings.proofs.ending.body_of.Reads as body-of
-
-pub refuse-single : Single 0 refuse-kinds.ps refuse-kinds.r refuse.Post
-refuse-single κs a x y s t p q = p ∙ sym q
 
 pub ending-of-single : Single 0 ending-of-kinds.ps ending-of-kinds.r ending-of.Post
 ending-of-single κs a x y s t p q = p ∙ sym q
@@ -25,8 +18,3 @@ ending-of-single κs a x y s t p q = p ∙ sym q
 pub body-of-single : (κs : Lfts 1) (a : Dens κs body-of-kinds.ps) (x y : resT body-of-kinds.r κs .Denot) (s t : AtExit (endedOf 1 body-of-kinds.ps body-of-kinds.r) κs) →
     body-of.Post κs a x s → body-of.Post κs a y t → now x ≡ now y
 body-of-single κs a x y s t p q = p ∙ sym q
-
-pub deliver-single : (κs : Lfts 4) (a : Dens κs deliver-kinds.ps) (x y : resT deliver-kinds.r κs .Denot) (s t : AtExit (endedOf 4 deliver-kinds.ps deliver-kinds.r) κs) →
-    deliver.Post κs a x s → deliver.Post κs a y t →
-    (x ≡ y) × (now (s .1 .1 .1 .1 .1 .0) ≡ now (t .1 .1 .1 .1 .1 .0)) × (now (s .1 .1 .1 .1 .1 .1 .0) ≡ now (t .1 .1 .1 .1 .1 .1 .0))
-deliver-single κs a x y s t p q = (p .0 ∙ sym (q .0), p .1 .0 ∙ sym (q .1 .0), p .1 .1 ∙ sym (q .1 .1))

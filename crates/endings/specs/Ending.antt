@@ -1,17 +1,11 @@
 -- What a settling adds to a walk, in numbers.
 use mathlib.Core.Bool.{Bool, true, false}
-use mathlib.Core.List.{List, _++_}
+use mathlib.Core.List.{List}
 use Prim.Native.Nat.{ℕ, _-_}
-use lib.ListN.{replicate}
-use Rattle.layers.specs.Layers.{layers}
-use Rattle.layers.specs.Answer.{Answer}
 use Rattle.parts.specs.Parts.{fullyDereferenced}
 use Rattle.steps.specs.StepKind as of-step
-use Rattle.steps.specs.Steps.{steps}
-use Rattle.turns.specs.Settling.{pointer}
 use Rattle.turns.specs.declared.settlement.Settling.{Settling}
 use Rattle.turns.specs.declared.settlement.Settling.the-variants as settling
-use Rattle.endings.specs.Plan.{Plan, narrow}
 use Rattle.endings.specs.declared.ending.Ending.{Ending}
 
 -- "p-n Autoderefs"
@@ -39,14 +33,3 @@ bodyOf settling.Viewed c t = t
 bodyOf (settling.Addressed b) c t = c
 bodyOf settling.Dereferenced c t = fullyDereferenced c
 bodyOf (settling.Refused k) c t = c
-
--- The plan of the steps that stand in words, and of the body under its Pointers.
-unfoldable pub planned : List ℕ → ℕ → Ending → List ℕ → Answer Plan
-planned ws taken e body =
-    narrow (record {
-      steps = steps ws;
-      taken = taken;
-      type = replicate (e .lead) pointer ++ layers body;
-      address = e .address;
-      coerced = e .coerced;
-    })

@@ -1,3 +1,1 @@
-pub mod Plan
-pub mod Report
 pub mod Ending

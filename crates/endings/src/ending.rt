@@ -1,11 +1,7 @@
-use kinds::Kind;
 use parts::fully_dereferenced;
 use steps::StepKind;
 use turns::Settling;
 ghost use mathlib.Core.Path.{_≡_};
-ghost use lib.ListN.{replicate};
-ghost use Rattle.layers.specs.Layers.{spelled};
-ghost use Rattle.turns.specs.Settling.{pointer};
 ghost use Rattle.endings.specs.Ending as ending;
 
 // What a settling adds, in numbers: so many steps of a kind, so many Pointers before the body of the reported type.
@@ -83,61 +79,4 @@ pub fn body_of<'a>(s: Settling, cur: &'a [u64], target: &'a [u64]) -> &'a [u64]
         Settling::Dereferenced => fully_dereferenced(cur),
         Settling::Refused(_) => cur,
     }
-}
-
-// The layers of as many Pointers as a type can have.
-pub(crate) fn pointers() -> [u64; 48]
-    ensures { λ r. ⌜ r ≡ spelled (replicate 16 pointer) ⌝ }
-{
-    let p = Kind::POINTER;
-    [
-        p,
-        0,
-        0,
-        p,
-        0,
-        0,
-        p,
-        0,
-        0,
-        p,
-        0,
-        0,
-        p,
-        0,
-        0,
-        p,
-        0,
-        0,
-        p,
-        0,
-        0,
-        p,
-        0,
-        0,
-        p,
-        0,
-        0,
-        p,
-        0,
-        0,
-        p,
-        0,
-        0,
-        p,
-        0,
-        0,
-        p,
-        0,
-        0,
-        p,
-        0,
-        0,
-        p,
-        0,
-        0,
-        p,
-        0,
-        0,
-    ]
 }

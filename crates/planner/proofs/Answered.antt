@@ -23,10 +23,10 @@ use Rattle.turns.specs.Settling.{Settled, plainly, settle, settleOtherwise}
 use Rattle.walker.specs.Walker.{Stored, typed, absent}
 use Rattle.walker.specs.Members.{members}
 use Rattle.rounds.specs.Walk.{Walk, ended, stopped, stepsOf, takenBy, memberType, goes, turnOf, onward, walk}
-use Rattle.endings.specs.Plan.{Plan}
+use Rattle.reports.specs.Plan.{Plan}
 use Rattle.rounds.specs.Walked.{withSettling, settleWalk}
 use Rattle.planner.specs.Plan.{planOf}
-use Rattle.endings.specs.Report.{delivered, told}
+use Rattle.reports.specs.Report.{delivered, told}
 use Rattle.planner.specs.Answers.{question, planned, planAnswer}
 
 abbrev tells : {A : Type 0} → Answer A → Bool

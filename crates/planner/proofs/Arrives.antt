@@ -15,7 +15,7 @@ use Rattle.turns.specs.Settling.{Settled, settle}
 use Rattle.layers.proofs.Given.{not-given, nothing-given, given-is}
 use Rattle.walker.specs.Walker.{Stored, typed, arrives}
 use Rattle.rounds.specs.Walk.{Walk, ended, stopped, walk}
-use Rattle.endings.specs.Plan.{Plan}
+use Rattle.reports.specs.Plan.{Plan}
 use Rattle.rounds.specs.Walked.{withSettling, settleWalk}
 use Rattle.planner.specs.Plan.{planOf}
 use Rattle.planner.specs.Demand.{Hidden, Demand}

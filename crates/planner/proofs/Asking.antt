@@ -26,11 +26,11 @@ use Rattle.orders.proofs.Ordered.{ordered, too-long}
 use Rattle.steps.specs.Steps.{stepsAnswer}
 use Rattle.walker.specs.Members.{memberIn, ofLayers, members}
 use Rattle.walker.proofs.Storing.{at-most, member-whole}
-use Rattle.endings.specs.Plan.{Plan}
+use Rattle.reports.specs.Plan.{Plan}
 use Rattle.planner.specs.Plan.{planOf}
-use Rattle.endings.specs.Report.{delivered, notGiven, told, stepsOver, typeOver}
-use Rattle.endings.specs.declared.report.Report.{Report}
-use Rattle.endings.proofs.Delivering.{told-refused, steps-stay, type-stays}
+use Rattle.reports.specs.Report.{delivered, notGiven, told, stepsOver, typeOver}
+use Rattle.reports.specs.declared.report.Report.{Report}
+use Rattle.reports.proofs.Delivering.{told-refused, steps-stay, type-stays}
 use Rattle.rounds.specs.Walked.{AllWhole, walked}
 use Rattle.planner.specs.Answers.{limits, question, planned, planAnswer}
 

@@ -36,13 +36,13 @@ use Rattle.steps.specs.Steps.{steps, stepWords}
 use Rattle.steps.proofs.Words.{words-length, words-back}
 use Rattle.walker.specs.Walker.{Stored, typed, absent}
 use Rattle.walker.specs.Members.{ofLayers, members, memberWords}
-use Rattle.endings.specs.declared.report.Report.{Report}
-use Rattle.endings.specs.Plan.{Plan}
+use Rattle.reports.specs.declared.report.Report.{Report}
+use Rattle.reports.specs.Plan.{Plan}
 use Rattle.planner.specs.Plan.{planOf}
-use Rattle.endings.specs.Report.{delivered, told, stepsOver, typeOver, planRead}
+use Rattle.reports.specs.Report.{delivered, told, stepsOver, typeOver, planRead}
 use Rattle.planner.specs.Answers.{limits, planned, planAnswer}
 use Rattle.planner.specs.Demand.{Demand}
-use Rattle.endings.proofs.Delivering.{second-fits}
+use Rattle.reports.proofs.Delivering.{second-fits}
 use Rattle.planner.proofs.Asking.{passed}
 use Rattle.planner.proofs.Arrives.{demand}
 use Rattle.planner.proofs.Answered.{not-refused}

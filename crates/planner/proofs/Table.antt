@@ -19,7 +19,7 @@ use Rattle.turns.specs.Turns.{turn}
 use Rattle.turns.specs.Settling.{settleOtherwise, settle}
 use Rattle.walker.specs.Walker.{absent}
 use Rattle.rounds.specs.Walk.{walk}
-use Rattle.endings.specs.Plan.{Plan}
+use Rattle.reports.specs.Plan.{Plan}
 use Rattle.planner.specs.Plan.{planOf}
 
 abbrev pub leaf : ℕ → List Layer

@@ -11,9 +11,9 @@ use Rattle.columns.specs.declared.symbol.Symbol.{Symbol}
 use Rattle.orders.specs.Order.{inOrder}
 use Rattle.steps.specs.Steps.{steps, stepsAnswer}
 use Rattle.walker.specs.Members.{members}
-use Rattle.endings.specs.Plan.{Plan}
+use Rattle.reports.specs.Plan.{Plan}
 use Rattle.planner.specs.Plan.{planOf}
-use Rattle.endings.specs.Report.{delivered}
+use Rattle.reports.specs.Report.{delivered}
 
 -- "At most 32 asked steps, 0 to 64 rounds"; "5 bad ... step, step count or rounds"
 abbrev pub limits : List ℕ → ℕ → Answer ℕ

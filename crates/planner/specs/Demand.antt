@@ -15,7 +15,7 @@ use Rattle.steps.specs.Steps.{Step, step}
 use Rattle.turns.specs.Settling.{settle, settleOtherwise}
 use Rattle.walker.specs.Walker.{at, Stored, walker, arrives}
 use Rattle.rounds.specs.Walk.{Walk, ended, stopped, walk}
-use Rattle.endings.specs.Plan.{Plan}
+use Rattle.reports.specs.Plan.{Plan}
 
 -- "an element's endless mark aside"
 abbrev pub unmarked : Step → Step

@@ -7,7 +7,7 @@ use Rattle.layers.specs.Answer.{Answer, refused}
 use Rattle.forms.specs.Formed.{wellFormed}
 use Rattle.steps.specs.Steps.{Step}
 use Rattle.walker.specs.Walker.{Stored}
-use Rattle.endings.specs.Plan.{Plan}
+use Rattle.reports.specs.Plan.{Plan}
 use Rattle.rounds.specs.Walk.{walk}
 use Rattle.rounds.specs.Walked.{settleWalk}
 

@@ -1,10 +1,10 @@
 use crate::plan::plan_among;
 use columns::Symbol;
-use endings::Report;
+use reports::Report;
 use tables::gather;
 ghost use mathlib.Core.Path.{_≡_};
 ghost use lib.ListN.{length};
-ghost use Rattle.endings.specs.Report as report;
+ghost use Rattle.reports.specs.Report as report;
 ghost use Rattle.planner.specs.Answers as answers;
 
 // Plans the asked steps from the known type, and writes the plan's steps and its reported type.

@@ -2,6 +2,6 @@
 mod entry;
 mod plan;
 
-pub use endings::Report;
 pub use entry::autoderef;
 pub use plan::plan_among;
+pub use reports::Report;

@@ -1,9 +1,9 @@
 use checks::check_type;
-use endings::Report;
-use endings::refuse;
 use forms::is_wellformed;
 use layers::Checked;
 use orders::in_order;
+use reports::Report;
+use reports::refuse;
 use rounds::walk_asked;
 use steps::check_steps;
 ghost use mathlib.Core.Path.{_≡_};
@@ -12,7 +12,7 @@ ghost use lib.ListN.{length};
 ghost use Rattle.layers.specs.Answer.{ofChecked};
 ghost use Rattle.layers.specs.Layers.{Whole};
 ghost use Rattle.columns.specs.Rows.{readFrom};
-ghost use Rattle.endings.specs.Report as report;
+ghost use Rattle.reports.specs.Report as report;
 ghost use Rattle.planner.specs.Answers as answers;
 
 // The most asked steps, and the most rounds.

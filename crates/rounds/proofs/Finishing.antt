@@ -21,9 +21,10 @@ use Rattle.turns.specs.declared.settlement.Settling.the-variants as settling
 use Rattle.turns.specs.Settling.{settle, ofSettling}
 use Rattle.endings.specs.declared.ending.Ending.{Ending}
 use Rattle.rounds.specs.Walked.{withSettling}
-use Rattle.endings.specs.Report.{delivered}
+use Rattle.reports.specs.Report.{delivered}
 use Rattle.rounds.specs.Walked.{finished}
-use Rattle.endings.specs.Ending.{endingOf, bodyOf, planned}
+use Rattle.endings.specs.Ending.{endingOf, bodyOf}
+use Rattle.reports.specs.Plan.{planned}
 use Rattle.rounds.proofs.Pushing.{Pushed}
 
 -- a type has no more Pointers than layers

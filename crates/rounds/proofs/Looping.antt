@@ -12,10 +12,10 @@ use Rattle.layers.specs.Layers.{layers, Whole}
 use Rattle.layers.specs.Answer.{Answer, refused}
 use Rattle.steps.proofs.Words.{stepAt}
 use Rattle.turns.specs.declared.turn.Turn.{Turn}
-use Rattle.endings.specs.declared.report.Report.{Report}
-use Rattle.endings.specs.Plan.{Plan}
-use Rattle.endings.specs.Report.{notGiven, told, stepsOver, typeOver}
-use Rattle.endings.proofs.Delivering as outcome
+use Rattle.reports.specs.declared.report.Report.{Report}
+use Rattle.reports.specs.Plan.{Plan}
+use Rattle.reports.specs.Report.{notGiven, told, stepsOver, typeOver}
+use Rattle.reports.proofs.Delivering as outcome
 use Rattle.rounds.specs.Walk.{stepsOf, takenBy}
 use Rattle.rounds.specs.Round.{turnAt, onto, refusal}
 use Rattle.rounds.specs.Walked.{AllWhole, finished, walked}

@@ -8,7 +8,7 @@ use Rattle.layers.specs.Answer.{refused}
 use Rattle.steps.specs.Steps.{steps}
 use Rattle.walker.specs.Members.{ofLayers}
 use Rattle.rounds.specs.Walk.{ended, stopped, walk}
-use Rattle.endings.specs.Report.{delivered}
+use Rattle.reports.specs.Report.{delivered}
 use Rattle.rounds.specs.Walked.{finished, walked}
 
 module _ (member : ℕ → List ℕ) (known asked target : List ℕ) (level rounds : ℕ) where

@@ -6,8 +6,8 @@ use Rattle.layers.specs.Answer.{Answer, given, nothing, refused}
 use Rattle.steps.specs.Steps.{Step, steps}
 use Rattle.turns.specs.Settling.{Settled, settle}
 use Rattle.walker.specs.Members.{ofLayers}
-use Rattle.endings.specs.Plan.{Plan, narrow}
-use Rattle.endings.specs.Report.{delivered}
+use Rattle.reports.specs.Plan.{Plan, narrow}
+use Rattle.reports.specs.Report.{delivered}
 use Rattle.rounds.specs.Walk.{Walk, ended, stopped, walk}
 
 abbrev pub withSettling : List Step → ℕ → Answer Settled → Answer Plan

@@ -1,8 +1,8 @@
-use endings::Report;
 use endings::body_of;
-use endings::deliver;
 use endings::ending_of;
-use endings::refuse;
+use reports::Report;
+use reports::deliver;
+use reports::refuse;
 use sizes::depth;
 use steps::four;
 use turns::settle;
@@ -12,7 +12,7 @@ ghost use Prim.Native.Nat.{_+_, _*_, _≤_};
 ghost use lib.ListN.{length, take, replicate};
 ghost use Rattle.layers.specs.Layers.{layers, Whole};
 ghost use Rattle.steps.specs.Steps.{step, stepWords};
-ghost use Rattle.endings.specs.Report as report;
+ghost use Rattle.reports.specs.Report as report;
 ghost use Rattle.rounds.specs.Walked.{finished};
 
 // Writes so many steps of a kind from step n on; where the next step goes.

@@ -4,14 +4,14 @@ use crate::round::push;
 use crate::round::refusal;
 use crate::round::took;
 use crate::round::turn_at;
-use endings::Report;
-use endings::refuse;
+use reports::Report;
+use reports::refuse;
 ghost use mathlib.Core.Path.{_≡_};
 ghost use Prim.Native.Nat.{_≤_, _*_};
 ghost use lib.ListN.{length, drop};
 ghost use Rattle.layers.specs.Layers.{Whole};
 ghost use Rattle.walker.specs.Members.{memberIn};
-ghost use Rattle.endings.specs.Report as report;
+ghost use Rattle.reports.specs.Report as report;
 ghost use Rattle.rounds.specs.Walked.{AllWhole, walked};
 
 // The steps after the first k.

@@ -33,8 +33,9 @@ use Rattle.moves.specs.Moves.{moveOf, seen, onward, desliced, sticks, moved, Cu
 use Rattle.moves.specs.declared.motion.Move.{Move}
 use Rattle.walker.proofs.Storing.{at-most, member-whole}
 use Rattle.moves.proofs.Acting.{acts, moves-on}
-use Rattle.walks.specs.Walked.{unlessStuck, walkedFrom, arrived, walkFrom, walkOrdered, walkTo, delivered, over}
-use Rattle.walks.proofs.Arriving.{Tells}
+use Rattle.arrivals.specs.Arrived.{arrived, delivered, over}
+use Rattle.arrivals.proofs.Arriving.{Tells}
+use Rattle.walks.specs.Walked.{unlessStuck, walkedFrom, walkFrom, walkOrdered, walkTo}
 
 -- what the walker knows before the step that starts at a word
 pub record Reached (columns known ws store : List ℕ) (n : ℕ) (cur : List ℕ) (b : Bool) (word : ℕ) : Type 0 where

@@ -16,7 +16,8 @@ use Rattle.columns.specs.declared.symbol.Symbol.{Symbol}
 use Rattle.steps.specs.Steps.{Step, step, steps, stepsAnswer}
 use Rattle.walker.specs.Walker.{Where, at, stuck, Stored, act, then, walker, arrives}
 use Rattle.walker.specs.Members.{members}
-use Rattle.walks.specs.Walked.{unlessStuck, walkedFrom, addressed, arrived, andThen, walkFrom, walkOrdered, walkTo}
+use Rattle.arrivals.specs.Arrived.{addressed, arrived}
+use Rattle.walks.specs.Walked.{unlessStuck, walkedFrom, andThen, walkFrom, walkOrdered, walkTo}
 
 -- where an answer says that the walker is
 abbrev whereOf : Answer (List Layer) → Where

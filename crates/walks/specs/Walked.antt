@@ -2,18 +2,15 @@
 use mathlib.Core.Bool.{Bool, cond}
 use mathlib.Core.List.{List, [], _∷_}
 use Prim.Native.Nat.{ℕ, _+_}
-use lib.Dec.{ltb}
-use lib.ListN.{length}
-use Rattle.kinds.specs.Kind as kind
-use Rattle.layers.specs.Layers.{Layer, layer, layers, spelled}
+use Rattle.layers.specs.Layers.{Layer, layers}
 use Rattle.layers.specs.Answer.{Answer, given, nothing, refused, next}
-use Rattle.checks.specs.Check.{checkOf}
-use Rattle.buffers.specs.Written.{written}
+use Rattle.layers.specs.Check.{checkOf}
 use Rattle.columns.specs.declared.symbol.Symbol.{Symbol}
 use Rattle.orders.specs.Order.{inOrder}
 use Rattle.steps.specs.Steps.{Step, steps, stepsAnswer}
 use Rattle.walker.specs.Walker.{Where, at, stuck, Stored, act}
 use Rattle.walker.specs.Members.{members}
+use Rattle.arrivals.specs.Arrived.{arrived}
 
 -- "8 with the step as place where it sticks": p is the place of the next step.
 abbrev pub unlessStuck : Where → ℕ → (List Layer → Answer (List Layer)) → Answer (List Layer)
@@ -23,13 +20,6 @@ unlessStuck stuck p f = refused 8 p
 unfoldable pub walkedFrom : (ℕ → Stored) → ℕ → List Step → List Layer → Answer (List Layer)
 walkedFrom stored p [] t = given t
 walkedFrom stored p (s ∷ ss) t = unlessStuck (act stored s t) p (walkedFrom stored (p + 1) ss)
-
--- "then the address where address is set"; "15 result over 16 layers"
-abbrev pub addressed : Bool → List Layer → List Layer
-addressed address t = cond address (layer kind.pointer 0 0 ∷ t) t
-
-unfoldable pub arrived : Bool → List Layer → Answer (List Layer)
-arrived address t = cond (ltb 16 (length (addressed address t))) (refused 15 0) (given (addressed address t))
 
 -- A refusal stands; else what follows of the value.
 abbrev pub andThen : Answer (List Layer) → (List Layer → Answer (List Layer)) → Answer (List Layer)
@@ -49,15 +39,3 @@ walkOrdered known ss address table store = cond (inOrder table store) (walkFrom 
 unfoldable pub walkTo : List ℕ → List ℕ → Bool → List Symbol → List ℕ → Answer (List Layer)
 walkTo known ss address table store =
     next (checkOf known) (next (stepsAnswer 128 ss) (walkOrdered known ss address table store))
-
--- "14 output too short for this result"; else how many words the type has.
-unfoldable pub delivered : ℕ → Answer (List Layer) → Answer ℕ
-delivered room (given t) = cond (ltb room (length (spelled t))) (refused 14 0) (given (length (spelled t)))
-delivered room nothing = nothing
-delivered room (refused n p) = refused n p
-
--- "A result is written from the output's first word; the rest is kept."
-unfoldable pub over : Answer (List Layer) → List ℕ → List ℕ
-over (given t) b = written (spelled t) b
-over nothing b = b
-over (refused n p) b = b

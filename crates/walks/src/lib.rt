@@ -1,5 +1,4 @@
 // The plain walker at work: it takes steps in a row and tells where it arrived.
-mod arrival;
 mod entry;
 mod taking;
 

@@ -47,13 +47,13 @@ use Rattle.tables.proofs.Lending.{Flat, lent, Gather, zeros-typed, gathering, l
 use Rattle.tables.proofs.gather.Symbol as gather-def
 use Rattle.tables.proofs.gather.Symbol.{name as #gather}
 use Rattle.tables.proofs.gather.Met as gather-thm
-use Rattle.endings.specs.declared.report.Report.{Report}
-use Rattle.endings.specs.Plan.{Plan}
-use Rattle.endings.specs.Report.{told, stepsOver, typeOver}
+use Rattle.reports.specs.declared.report.Report.{Report}
+use Rattle.reports.specs.Plan.{Plan}
+use Rattle.reports.specs.Report.{told, stepsOver, typeOver}
 use Rattle.planner.specs.Answers.{planAnswer}
 use Rattle.planner.proofs.Asking.{plan-same}
-use Rattle.endings.proofs.report.Report as B
-use Rattle.endings.proofs.report.Report.Laws as B′
+use Rattle.reports.proofs.report.Report as B
+use Rattle.reports.proofs.report.Report.Laws as B′
 use Rattle.planner.proofs.plan.plan_among as core
 use Rattle.planner.proofs.plan.plan_among.Symbol as core-def
 use Rattle.planner.proofs.plan.plan_among.Symbol.{name as #plan-among}

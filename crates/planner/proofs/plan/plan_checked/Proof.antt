@@ -1,5 +1,5 @@
 use borrow.Author.Needs.{needs}
-use Rattle.endings.proofs.Delivering.{told-refused, steps-stay, type-stays}
+use Rattle.reports.proofs.Delivering.{told-refused, steps-stay, type-stays}
 use Rattle.planner.proofs.Asking.{out-of-order, known-ill-formed, target-ill-formed, told-walked, steps-walked, type-walked, all-whole, byte}
 use Rattle.planner.proofs.plan.plan_checked.Statement.{statement}
 use Rattle.planner.proofs.plan.plan_checked.Tie as tie

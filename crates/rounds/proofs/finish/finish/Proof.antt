@@ -6,7 +6,7 @@ use native.Mathlib.Omega.{arith}
 use lib.ListN.{length, take, length-replicate}
 use Rattle.steps.specs.Steps.{step}
 use denote.Ref.{now}
-use Rattle.endings.proofs.Delivering.{refuses}
+use Rattle.reports.proofs.Delivering.{refuses}
 use Rattle.rounds.proofs.Finishing.{whole-depth, extra-few, lead-few, body-whole, stops, goes-out}
 
 pub finish-spec : {M : Type 1} → statement M

@@ -28,8 +28,8 @@ use denote.Triple.Spec.{Meets}
 use denote.Triple.Call.{calls-at}
 use denote.Triple.Table.{entered, cited}
 use Rattle.columns.proofs.symbol.Symbol as T
-use Rattle.endings.proofs.report.Report as R
-use Rattle.endings.proofs.report.Report.Laws as R′
+use Rattle.reports.proofs.report.Report as R
+use Rattle.reports.proofs.report.Report.Laws as R′
 use Rattle.planner.proofs.autoderef.Symbol as callee
 use Rattle.planner.proofs.autoderef.Met as callee-thm
 use Rattle.tables.proofs.Pass.{Promised, spelt, at-spelt, answered, handed-out}

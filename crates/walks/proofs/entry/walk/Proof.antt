@@ -53,7 +53,8 @@ use Rattle.answers.specs.Flat.{flat}
 use Rattle.answers.specs.declared.flat.Answer.{Answer}
 use Rattle.answers.proofs.flat.Answer as B
 use Rattle.answers.proofs.flat.Answer.Laws as B′
-use Rattle.walks.specs.Walked.{walkTo, delivered, over}
+use Rattle.arrivals.specs.Arrived.{delivered, over}
+use Rattle.walks.specs.Walked.{walkTo}
 use Rattle.walks.proofs.Stepping.{walk-same}
 use Rattle.walks.proofs.taking.walk_among as core
 use Rattle.walks.proofs.taking.walk_among.Symbol as core-def

@@ -1,5 +1,5 @@
-use Rattle.endings.proofs.ending.pointers.Statement.{statement}
-use Rattle.endings.proofs.ending.pointers.Tie as tie
+use Rattle.reports.proofs.front.pointers.Statement.{statement}
+use Rattle.reports.proofs.front.pointers.Tie as tie
 use Rattle.layers.specs.Layers.{spelled}
 
 pub pointers-spec : {M : Type 1} → statement M

@@ -8,8 +8,8 @@ use Rattle.layers.specs.Layers.{layers, spelled}
 use Rattle.layers.specs.Answer.{Answer, given, nothing, refused}
 use Rattle.buffers.specs.Written.{written}
 use Rattle.steps.specs.Steps.{steps, stepWords}
-use Rattle.endings.specs.declared.report.Report.{Report}
-use Rattle.endings.specs.Plan.{Plan}
+use Rattle.reports.specs.declared.report.Report.{Report}
+use Rattle.reports.specs.Plan.{Plan}
 
 -- "14 output too short for this result"
 unfoldable pub delivered : ℕ → ℕ → Answer Plan → Answer Plan

@@ -1,13 +1,13 @@
-use crate::ending::Ending;
-use crate::ending::pointers;
+use crate::front::pointers;
 use crate::report::Report;
 use buffers::write_words;
+use endings::Ending;
 ghost use mathlib.Core.Path.{_≡_};
 ghost use Prim.Native.Nat.{_*_, _≤_};
 ghost use lib.ListN.{length, take};
 ghost use Rattle.layers.specs.Layers.{Whole};
-ghost use Rattle.endings.specs.Report as report;
-ghost use Rattle.endings.specs.Ending.{planned};
+ghost use Rattle.reports.specs.Report as report;
+ghost use Rattle.reports.specs.Plan.{planned};
 
 // The most words that a type has.
 const MOST: usize = 48;

@@ -17,7 +17,7 @@ use Rattle.outputs.specs.Outcome.{answerIn, bufferIn}
 use Rattle.answers.specs.Flat.{flat}
 use Rattle.answers.specs.declared.flat.Answer.{Answer}
 use Rattle.moves.specs.Moves.{seen}
-use Rattle.walks.specs.Walked.{addressed, arrived, delivered, over}
+use Rattle.arrivals.specs.Arrived.{addressed, arrived, delivered, over}
 
 -- what the walker tells, and what it leaves
 abbrev pub Tells : paper.Answer (List Layer) → List ℕ → Answer → List ℕ → Type 0

@@ -8,7 +8,7 @@ ghost use mathlib.Core.Bool.{cond};
 ghost use lib.ListN.{length, drop};
 ghost use Rattle.answers.specs.Flat.{flat};
 ghost use Rattle.moves.specs.Moves.{seen};
-ghost use Rattle.walks.specs.Walked as rules;
+ghost use Rattle.arrivals.specs.Arrived as rules;
 
 // The words that stay: those behind the outer layer, where that counts as Arraylike.
 fn staying(cur: &[u64], desliced: bool) -> &[u64]
@@ -34,7 +34,7 @@ fn front_end(desliced: bool) -> usize
 }
 
 // The arrival at the type at these words, whose outer layer counts as Arraylike where desliced is set, or at its address.
-pub(crate) fn arrive(out: &mut [u64], cur: &[u64], desliced: bool, address: bool) -> Answer
+pub fn arrive(out: &mut [u64], cur: &[u64], desliced: bool, address: bool) -> Answer
     ensures answer { λ r. ⌜ r ≡ flat (rules.delivered (length (now (out .entry))) (rules.arrived address (seen (now (cur .entry)) desliced))) ⌝ }
     ensures written { λ _. ⌜ now (out .exit) ≡ rules.over (rules.arrived address (seen (now (cur .entry)) desliced)) (now (out .entry)) ⌝ }
 {

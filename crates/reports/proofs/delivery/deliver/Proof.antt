@@ -1,13 +1,13 @@
 use borrow.Author.Needs.{needs}
-use Rattle.endings.proofs.delivery.deliver.Statement.{statement}
-use Rattle.endings.proofs.delivery.deliver.Tie as tie
+use Rattle.reports.proofs.delivery.deliver.Statement.{statement}
+use Rattle.reports.proofs.delivery.deliver.Tie as tie
 use native.Mathlib.Omega.{arith}
 use Prim.Native.Nat.{_+_, _*_}
 use mathlib.Core.Path.{sym}
 use lib.ListN.{length}
 use lib.Seq.{length-take-le}
 use denote.Ref.{now}
-use Rattle.endings.proofs.Delivering.{too-wide, too-short, second-fits, some-pointers, front-length, wrote}
+use Rattle.reports.proofs.Delivering.{too-wide, too-short, second-fits, some-pointers, front-length, wrote}
 
 pub deliver-spec : {M : Type 1} → statement M
 deliver-spec =

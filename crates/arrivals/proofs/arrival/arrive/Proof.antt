@@ -1,7 +1,7 @@
-use Rattle.walks.proofs.Arriving.{starts, ends, told}
+use Rattle.arrivals.proofs.Arriving.{starts, ends, told}
 use borrow.Author.Needs.{needs}
-use Rattle.walks.proofs.arrival.arrive.Statement.{statement}
-use Rattle.walks.proofs.arrival.arrive.Tie as tie
+use Rattle.arrivals.proofs.arrival.arrive.Statement.{statement}
+use Rattle.arrivals.proofs.arrival.arrive.Tie as tie
 
 pub arrive-spec : {M : Type 1} → statement M
 arrive-spec =

@@ -17,11 +17,10 @@ use Rattle.buffers.proofs.Writing.{part, put, front-first}
 use Rattle.steps.specs.Steps.{steps, stepWords}
 use Rattle.steps.proofs.Words.{words-length, words-whole}
 use Rattle.turns.specs.Settling.{pointer}
-use Rattle.endings.specs.declared.report.Report.{Report}
 use Rattle.endings.specs.declared.ending.Ending.{Ending}
-use Rattle.endings.specs.Plan.{Plan}
-use Rattle.endings.specs.Report.{delivered, notGiven, told, stepsOver, typeOver}
-use Rattle.endings.specs.Ending.{planned}
+use Rattle.reports.specs.declared.report.Report.{Report}
+use Rattle.reports.specs.Plan.{Plan, planned}
+use Rattle.reports.specs.Report.{delivered, notGiven, told, stepsOver, typeOver}
 
 -- the report r, and the outputs s and t that became s′ and t′, are those of an outcome
 abbrev pub Told : Answer Plan → Report → List ℕ → List ℕ → List ℕ → List ℕ → Type 0

@@ -1,0 +1,62 @@
+use kinds::Kind;
+ghost use mathlib.Core.Path.{_≡_};
+ghost use lib.ListN.{replicate};
+ghost use Rattle.layers.specs.Layers.{spelled};
+ghost use Rattle.turns.specs.Settling.{pointer};
+
+// The layers of as many Pointers as a type can have.
+pub(crate) fn pointers() -> [u64; 48]
+    ensures { λ r. ⌜ r ≡ spelled (replicate 16 pointer) ⌝ }
+{
+    let p = Kind::POINTER;
+    [
+        p,
+        0,
+        0,
+        p,
+        0,
+        0,
+        p,
+        0,
+        0,
+        p,
+        0,
+        0,
+        p,
+        0,
+        0,
+        p,
+        0,
+        0,
+        p,
+        0,
+        0,
+        p,
+        0,
+        0,
+        p,
+        0,
+        0,
+        p,
+        0,
+        0,
+        p,
+        0,
+        0,
+        p,
+        0,
+        0,
+        p,
+        0,
+        0,
+        p,
+        0,
+        0,
+        p,
+        0,
+        0,
+        p,
+        0,
+        0,
+    ]
+}
