@@ -8,9 +8,9 @@ use Rattle.layers.specs.Answer.{Answer}
 use Rattle.parts.specs.Parts.{fullyDereferenced}
 use Rattle.steps.specs.StepKind as of-step
 use Rattle.steps.specs.Steps.{steps}
-use Rattle.turns.specs.Settling.{pointer}
-use Rattle.turns.specs.declared.settlement.Settling.{Settling}
-use Rattle.turns.specs.declared.settlement.Settling.the-variants as settling
+use Rattle.settlings.specs.Settling.{pointer}
+use Rattle.settlings.specs.declared.settlement.Settling.{Settling}
+use Rattle.settlings.specs.declared.settlement.Settling.the-variants as settling
 use Rattle.endings.specs.Plan.{Plan, narrow}
 use Rattle.endings.specs.declared.ending.Ending.{Ending}
 

@@ -1,11 +1,11 @@
 use kinds::Kind;
 use parts::fully_dereferenced;
+use settlings::Settling;
 use steps::StepKind;
-use turns::Settling;
 ghost use mathlib.Core.Path.{_≡_};
 ghost use lib.ListN.{replicate};
 ghost use Rattle.layers.specs.Layers.{spelled};
-ghost use Rattle.turns.specs.Settling.{pointer};
+ghost use Rattle.settlings.specs.Settling.{pointer};
 ghost use Rattle.endings.specs.Ending as ending;
 
 // What a settling adds, in numbers: so many steps of a kind, so many Pointers before the body of the reported type.

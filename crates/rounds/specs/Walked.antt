@@ -5,7 +5,7 @@ use Rattle.layers.specs.Layers.{Layer, layers}
 use Rattle.layers.specs.Answer.{Answer, given, nothing, refused}
 use Rattle.layers.proofs.Accepted.{Whole}
 use Rattle.steps.specs.Steps.{Step, steps}
-use Rattle.turns.specs.Settling.{Settled, settle}
+use Rattle.settlings.specs.Settling.{Settled, settle}
 use Rattle.walker.specs.Members.{ofLayers}
 use Rattle.endings.specs.Plan.{Plan, narrow}
 use Rattle.endings.specs.Report.{delivered}
