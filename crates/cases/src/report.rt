@@ -1,7 +1,7 @@
 use bounds::Bound;
-use forms::Property;
 use layers::Checked;
 use layers::Verdict;
+use outsides::Property;
 use parts::Part;
 use parts::Start;
 use roles::Role;
@@ -78,11 +78,11 @@ fn bound(b: Bound) {
 
 fn properties(ws: &[u64]) {
     verdict(forms::wellformed(ws));
-    verdict(forms::has(Property::Void, ws));
-    verdict(forms::has(Property::Integral, ws));
-    verdict(forms::has(Property::Signed, ws));
-    verdict(forms::has(Property::Bitfield, ws));
-    verdict(forms::has(Property::SlicePointer, ws));
+    verdict(outsides::has(Property::Void, ws));
+    verdict(outsides::has(Property::Integral, ws));
+    verdict(outsides::has(Property::Signed, ws));
+    verdict(outsides::has(Property::Bitfield, ws));
+    verdict(outsides::has(Property::SlicePointer, ws));
 }
 
 fn uses(ws: &[u64]) {

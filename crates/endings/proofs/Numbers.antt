@@ -4,8 +4,8 @@ use mathlib.Core.Path.{_≡_}
 use mathlib.Core.Bool.{Bool, true, false}
 use Prim.Native.Nat.{ℕ}
 use Rattle.steps.specs.StepKind as of-step
-use Rattle.turns.specs.declared.settlement.Settling.{Settling}
-use Rattle.turns.specs.declared.settlement.Settling.the-variants as settling
+use Rattle.settlings.specs.declared.settlement.Settling.{Settling}
+use Rattle.settlings.specs.declared.settlement.Settling.the-variants as settling
 use Rattle.endings.specs.Ending.{unwound, given, refused, endingOf}
 use Rattle.endings.specs.declared.ending.Ending.{Ending}
 

@@ -4,8 +4,8 @@ use mathlib.Core.List.{List}
 use Prim.Native.Nat.{ℕ, _-_}
 use Rattle.parts.specs.Parts.{fullyDereferenced}
 use Rattle.steps.specs.StepKind as of-step
-use Rattle.turns.specs.declared.settlement.Settling.{Settling}
-use Rattle.turns.specs.declared.settlement.Settling.the-variants as settling
+use Rattle.settlings.specs.declared.settlement.Settling.{Settling}
+use Rattle.settlings.specs.declared.settlement.Settling.the-variants as settling
 use Rattle.endings.specs.declared.ending.Ending.{Ending}
 
 -- "p-n Autoderefs"

@@ -1,6 +1,6 @@
 use parts::fully_dereferenced;
+use settlings::Settling;
 use steps::StepKind;
-use turns::Settling;
 ghost use mathlib.Core.Path.{_≡_};
 ghost use Rattle.endings.specs.Ending as ending;
 

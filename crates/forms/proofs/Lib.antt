@@ -1,4 +1,3 @@
 -- What the proofs of several functions use.
 pub mod Fits
-pub mod Told
 pub mod Single

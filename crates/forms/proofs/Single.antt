@@ -7,14 +7,9 @@ use Rattle.forms.proofs.formed.is_wellformed.Kinds as is-wellformed-kin
 use Rattle.forms.proofs.formed.is_wellformed.Reads as is-wellformed
 use Rattle.forms.proofs.formed.wellformed.Kinds as wellformed-kinds
 use Rattle.forms.proofs.formed.wellformed.Reads as wellformed
-use Rattle.forms.proofs.properties.has.Kinds as has-kinds
-use Rattle.forms.proofs.properties.has.Reads as has
 
 pub is-wellformed-single : Single 1 is-wellformed-kinds.ps is-wellformed-kinds.r is-wellformed.Post
 is-wellformed-single κs a x y s t p q = p ∙ sym q
 
 pub wellformed-single : Single 1 wellformed-kinds.ps wellformed-kinds.r wellformed.Post
 wellformed-single κs a x y s t p q = verdict-apart x y (p ∙ sym q)
-
-pub has-single : Single 1 has-kinds.ps has-kinds.r has.Post
-has-single κs a x y s t p q = verdict-apart x y (p ∙ sym q)

@@ -1,2 +1,1 @@
 pub mod Formed
-pub mod Properties

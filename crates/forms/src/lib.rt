@@ -1,8 +1,5 @@
-// What a type is: well formed, and what its outer kind alone tells.
+// Whether a type is well formed.
 mod formed;
-mod properties;
 
 pub use formed::is_wellformed;
 pub use formed::wellformed;
-pub use properties::Property;
-pub use properties::has;

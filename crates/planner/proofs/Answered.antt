@@ -19,7 +19,7 @@ use Rattle.orders.specs.Order.{inOrder}
 use Rattle.steps.specs.Steps.{Step, steps, goodSteps, stepWords, stepsAnswer}
 use Rattle.turns.specs.declared.turn.Turn.{Turn}
 use Rattle.turns.specs.declared.turn.Turn.the-variants.{Stuck, Auto, Element, Desliced, Member}
-use Rattle.turns.specs.Settling.{Settled, plainly, settle, settleOtherwise}
+use Rattle.settlings.specs.Settling.{Settled, plainly, settle, settleOtherwise}
 use Rattle.walker.specs.Walker.{Stored, typed, absent}
 use Rattle.walker.specs.Members.{members}
 use Rattle.rounds.specs.Walk.{Walk, ended, stopped, stepsOf, takenBy, memberType, goes, turnOf, onward, walk}

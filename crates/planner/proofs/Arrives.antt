@@ -11,7 +11,7 @@ use Rattle.layers.specs.Layers.{Layer}
 use Rattle.layers.specs.Answer.{Answer, given, nothing, refused}
 use Rattle.forms.specs.Formed.{wellFormed}
 use Rattle.steps.specs.Steps.{Step}
-use Rattle.turns.specs.Settling.{Settled, settle}
+use Rattle.settlings.specs.Settling.{Settled, settle}
 use Rattle.layers.proofs.Given.{not-given, nothing-given, given-is}
 use Rattle.walker.specs.Walker.{Stored, typed, arrives}
 use Rattle.rounds.specs.Walk.{Walk, ended, stopped, walk}

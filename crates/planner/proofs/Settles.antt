@@ -22,8 +22,8 @@ use Rattle.equalities.proofs.Theorems.{identical-equal}
 use Rattle.layers.proofs.Decide.{both}
 use Rattle.steps.specs.StepKind as of-step
 use Rattle.steps.specs.Steps.{Step, step}
-use Rattle.turns.specs.Settling.{Settled, settled, pointer, dereferenced, settleOtherwise, settle}
-use Rattle.turns.proofs.Lines.{lines}
+use Rattle.settlings.specs.Settling.{Settled, settled, pointer, dereferenced, settleOtherwise, settle}
+use Rattle.settlings.proofs.Lines.{lines}
 use Rattle.walker.specs.Walker.{at, Stored, act, walker, arrives}
 use Rattle.planner.specs.Demand.{asked}
 use Rattle.checks.proofs.Accepted.{goodLayers}

@@ -12,7 +12,7 @@ use Rattle.forms.specs.Formed.{inner, element, wellFormed}
 use Rattle.equalities.specs.Equalities.{identical, plain, equals}
 use Rattle.coercions.specs.Coercions.{coerces, addressCoerces, viewAutoderefs, autoderefs}
 use Rattle.turns.specs.Turns.{turn}
-use Rattle.turns.specs.Settling.{settleOtherwise, settle}
+use Rattle.settlings.specs.Settling.{settleOtherwise, settle}
 use Rattle.rounds.specs.Walk.{walk}
 use Rattle.planner.specs.Plan.{planOf}
 use Rattle.planner.proofs.Table.{leaf, of, int32, plan, planned}

@@ -16,7 +16,7 @@ use Rattle.coercions.specs.Coercions.{coerces, addressCoerces}
 use Rattle.steps.specs.StepKind as of-step
 use Rattle.steps.specs.Steps.{Step, step}
 use Rattle.turns.specs.Turns.{turn}
-use Rattle.turns.specs.Settling.{settleOtherwise, settle}
+use Rattle.settlings.specs.Settling.{settleOtherwise, settle}
 use Rattle.walker.specs.Walker.{absent}
 use Rattle.rounds.specs.Walk.{walk}
 use Rattle.reports.specs.Plan.{Plan}

@@ -12,7 +12,7 @@ use Rattle.parts.specs.Parts.{references}
 use Rattle.sizes.specs.Depth.{pointerDepth}
 use Rattle.steps.specs.StepKind as of-step
 use Rattle.steps.specs.Steps.{Step, step}
-use Rattle.turns.specs.Settling.{settle, settleOtherwise}
+use Rattle.settlings.specs.Settling.{settle, settleOtherwise}
 use Rattle.walker.specs.Walker.{at, Stored, walker, arrives}
 use Rattle.rounds.specs.Walk.{Walk, ended, stopped, walk}
 use Rattle.reports.specs.Plan.{Plan}

@@ -16,7 +16,7 @@ use Rattle.buffers.specs.Written.{written}
 use Rattle.buffers.proofs.Writing.{part, put, front-first}
 use Rattle.steps.specs.Steps.{steps, stepWords}
 use Rattle.steps.proofs.Words.{words-length, words-whole}
-use Rattle.turns.specs.Settling.{pointer}
+use Rattle.settlings.specs.Settling.{pointer}
 use Rattle.endings.specs.declared.ending.Ending.{Ending}
 use Rattle.reports.specs.declared.report.Report.{Report}
 use Rattle.reports.specs.Plan.{Plan, planned}

@@ -7,7 +7,7 @@ use lib.ListN.{length, replicate}
 use Rattle.layers.specs.Layers.{Layer, layers}
 use Rattle.layers.specs.Answer.{Answer, given, refused}
 use Rattle.steps.specs.Steps.{Step, steps}
-use Rattle.turns.specs.Settling.{pointer}
+use Rattle.settlings.specs.Settling.{pointer}
 use Rattle.endings.specs.declared.ending.Ending.{Ending}
 
 pub record Plan : Type 0 where

@@ -2,7 +2,7 @@ use kinds::Kind;
 ghost use mathlib.Core.Path.{_≡_};
 ghost use lib.ListN.{replicate};
 ghost use Rattle.layers.specs.Layers.{spelled};
-ghost use Rattle.turns.specs.Settling.{pointer};
+ghost use Rattle.settlings.specs.Settling.{pointer};
 
 // The layers of as many Pointers as a type can have.
 pub(crate) fn pointers() -> [u64; 48]

@@ -16,9 +16,9 @@ use Rattle.parts.specs.Parts.{references, fullyDereferenced}
 use Rattle.sizes.specs.Depth.{pointerDepth}
 use Rattle.steps.specs.Steps.{Step, step, steps, stepWords}
 use Rattle.steps.proofs.Words.{words-append, words-back, words-whole}
-use Rattle.turns.specs.declared.settlement.Settling.{Settling}
-use Rattle.turns.specs.declared.settlement.Settling.the-variants as settling
-use Rattle.turns.specs.Settling.{settle, ofSettling}
+use Rattle.settlings.specs.declared.settlement.Settling.{Settling}
+use Rattle.settlings.specs.declared.settlement.Settling.the-variants as settling
+use Rattle.settlings.specs.Settling.{settle, ofSettling}
 use Rattle.endings.specs.declared.ending.Ending.{Ending}
 use Rattle.rounds.specs.Walked.{withSettling}
 use Rattle.reports.specs.Report.{delivered}

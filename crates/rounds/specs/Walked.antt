@@ -4,7 +4,7 @@ use Prim.Native.Nat.{ℕ}
 use Rattle.layers.specs.Layers.{Layer, layers, Whole}
 use Rattle.layers.specs.Answer.{Answer, given, nothing, refused}
 use Rattle.steps.specs.Steps.{Step, steps}
-use Rattle.turns.specs.Settling.{Settled, settle}
+use Rattle.settlings.specs.Settling.{Settled, settle}
 use Rattle.walker.specs.Members.{ofLayers}
 use Rattle.reports.specs.Plan.{Plan, narrow}
 use Rattle.reports.specs.Report.{delivered}

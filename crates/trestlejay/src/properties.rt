@@ -1,11 +1,11 @@
 use answers::Answer;
 use answers::checked;
 use answers::verdict;
-use forms::Property;
+use outsides::Property;
 ghost use mathlib.Core.Path.{_≡_};
 ghost use Rattle.checks.specs.Check.{checkOf};
 ghost use Rattle.forms.specs.Formed.{wellFormedAnswer};
-ghost use Rattle.forms.specs.Properties.{propertyAnswer};
+ghost use Rattle.outsides.specs.Properties.{propertyAnswer};
 ghost use Rattle.answers.specs.Flat.{flat};
 
 #[no_mangle]
@@ -26,33 +26,33 @@ pub extern "C" fn tj_is_wellformed(t: &[u64]) -> Answer
 pub extern "C" fn tj_is_void(t: &[u64]) -> Answer
     ensures { λ r. ⌜ r ≡ flat (propertyAnswer Property.Void (now (t .entry))) ⌝ }
 {
-    verdict(forms::has(Property::Void, t))
+    verdict(outsides::has(Property::Void, t))
 }
 
 #[no_mangle]
 pub extern "C" fn tj_is_integral(t: &[u64]) -> Answer
     ensures { λ r. ⌜ r ≡ flat (propertyAnswer Property.Integral (now (t .entry))) ⌝ }
 {
-    verdict(forms::has(Property::Integral, t))
+    verdict(outsides::has(Property::Integral, t))
 }
 
 #[no_mangle]
 pub extern "C" fn tj_is_signed(t: &[u64]) -> Answer
     ensures { λ r. ⌜ r ≡ flat (propertyAnswer Property.Signed (now (t .entry))) ⌝ }
 {
-    verdict(forms::has(Property::Signed, t))
+    verdict(outsides::has(Property::Signed, t))
 }
 
 #[no_mangle]
 pub extern "C" fn tj_is_bitfield(t: &[u64]) -> Answer
     ensures { λ r. ⌜ r ≡ flat (propertyAnswer Property.Bitfield (now (t .entry))) ⌝ }
 {
-    verdict(forms::has(Property::Bitfield, t))
+    verdict(outsides::has(Property::Bitfield, t))
 }
 
 #[no_mangle]
 pub extern "C" fn tj_is_slice_pointer(t: &[u64]) -> Answer
     ensures { λ r. ⌜ r ≡ flat (propertyAnswer Property.SlicePointer (now (t .entry))) ⌝ }
 {
-    verdict(forms::has(Property::SlicePointer, t))
+    verdict(outsides::has(Property::SlicePointer, t))
 }

@@ -1,9 +1,6 @@
-// What one round of the walk decides, and how a walk is settled.
+// What one round of the walk decides.
 mod round;
-mod settlement;
 mod turn;
 
 pub use round::turn_of;
-pub use settlement::Settling;
-pub use settlement::settle;
 pub use turn::Turn;

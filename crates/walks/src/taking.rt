@@ -1,7 +1,7 @@
 use answers::Answer;
 use answers::refused;
-use checks::check_type;
 use arrivals::arrive;
+use checks::check_type;
 use layers::Checked;
 use layers::inner;
 use layers::outer;

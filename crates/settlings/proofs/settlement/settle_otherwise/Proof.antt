@@ -1,8 +1,8 @@
 use native.Mathlib.Omega.{arith}
-use Rattle.turns.proofs.Decided.{too-deep, one-deeper, slice-pointer, fully}
+use Rattle.settlings.proofs.Decided.{too-deep, one-deeper, slice-pointer, fully}
 use borrow.Author.Needs.{needs}
-use Rattle.turns.proofs.settlement.settle_otherwise.Statement.{statement}
-use Rattle.turns.proofs.settlement.settle_otherwise.Tie as tie
+use Rattle.settlings.proofs.settlement.settle_otherwise.Statement.{statement}
+use Rattle.settlings.proofs.settlement.settle_otherwise.Tie as tie
 
 pub settle-otherwise-spec : {M : Type 1} → statement M
 settle-otherwise-spec =

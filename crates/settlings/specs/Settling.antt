@@ -14,8 +14,8 @@ use Rattle.equalities.specs.Equalities.{identical}
 use Rattle.coercions.specs.Coercions.{coerces, addressCoerces}
 use Rattle.steps.specs.StepKind as of-step
 use Rattle.steps.specs.Steps.{Step, step}
-use Rattle.turns.specs.declared.settlement.Settling.{Settling}
-use Rattle.turns.specs.declared.settlement.Settling.the-variants as settling
+use Rattle.settlings.specs.declared.settlement.Settling.{Settling}
+use Rattle.settlings.specs.declared.settlement.Settling.the-variants as settling
 
 -- What the settling adds to a walk: further steps, the reported type, and two flags.
 pub record Settled : Type 0 where

@@ -7,7 +7,7 @@ use layers::outer;
 use sizes::depth;
 ghost use mathlib.Core.Path.{_≡_};
 ghost use Rattle.layers.specs.Layers.{layers};
-ghost use Rattle.turns.specs.Settling as rules;
+ghost use Rattle.settlings.specs.Settling as rules;
 
 // How a walk is settled. The flag: whether the reported type is then coerced into the target.
 pub enum Settling {

@@ -3,8 +3,8 @@
 use mathlib.Core.Path.{_≡_}
 use mathlib.Core.Bool.{Bool}
 use Prim.Native.Nat.{ℕ}
-use Rattle.forms.specs.Properties.{holds}
-use Rattle.forms.specs.declared.properties.Property.{Property}
+use Rattle.outsides.specs.Properties.{holds}
+use Rattle.outsides.specs.declared.properties.Property.{Property}
 
 pub property-told : (p q : Property) (k : ℕ) (r : Bool) → p ≡ q → r ≡ holds q k → r ≡ holds p k
 property-told p q k r e h = rw e h

@@ -1,7 +1,7 @@
 use borrow.Author.Needs.{needs}
-use Rattle.forms.proofs.Told.{property-told}
-use Rattle.forms.proofs.properties.holds.Statement.{statement}
-use Rattle.forms.proofs.properties.holds.Tie as tie
+use Rattle.outsides.proofs.Told.{property-told}
+use Rattle.outsides.proofs.properties.holds.Statement.{statement}
+use Rattle.outsides.proofs.properties.holds.Tie as tie
 
 pub holds-spec : {M : Type 1} → statement M
 holds-spec =

@@ -1,7 +1,7 @@
-use Rattle.turns.proofs.Decided.{line-i, line-ii, line-iii, line-iv, line-v, line-vi, line-vii}
+use Rattle.settlings.proofs.Decided.{line-i, line-ii, line-iii, line-iv, line-v, line-vi, line-vii}
 use borrow.Author.Needs.{needs}
-use Rattle.turns.proofs.settlement.settle.Statement.{statement}
-use Rattle.turns.proofs.settlement.settle.Tie as tie
+use Rattle.settlings.proofs.settlement.settle.Statement.{statement}
+use Rattle.settlings.proofs.settlement.settle.Tie as tie
 
 pub settle-spec : {M : Type 1} → statement M
 settle-spec =

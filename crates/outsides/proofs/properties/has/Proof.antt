@@ -1,9 +1,9 @@
 use borrow.Author.Needs.{needs}
 use Rattle.checks.proofs.Refusals.{refuses, accepts, answered}
-use Rattle.forms.proofs.Told.{property-at}
-use Rattle.forms.specs.Properties.{propertyAnswer}
-use Rattle.forms.proofs.properties.has.Statement.{statement}
-use Rattle.forms.proofs.properties.has.Tie as tie
+use Rattle.outsides.proofs.Told.{property-at}
+use Rattle.outsides.specs.Properties.{propertyAnswer}
+use Rattle.outsides.proofs.properties.has.Statement.{statement}
+use Rattle.outsides.proofs.properties.has.Tie as tie
 
 pub has-spec : {M : Type 1} → statement M
 unfolding propertyAnswer

@@ -7,7 +7,7 @@ ghost use mathlib.Core.Path.{_≡_};
 ghost use lib.Dec.{eqb};
 ghost use Rattle.kinds.specs.Kind as kind;
 ghost use Rattle.layers.specs.Answer.{ofVerdict};
-ghost use Rattle.forms.specs.Properties as properties;
+ghost use Rattle.outsides.specs.Properties as properties;
 
 // What the outer kind alone tells of a type.
 pub enum Property {

@@ -16,7 +16,7 @@ use Rattle.coercions.specs.Coercions.{coerces, addressCoerces}
 use Rattle.layers.proofs.Decide.{both}
 use Rattle.steps.specs.StepKind as of-step
 use Rattle.steps.specs.Steps.{step}
-use Rattle.turns.specs.Settling.{Settled, settled, byAddress, plainly, dereferenced, settleOtherwise, settle}
+use Rattle.settlings.specs.Settling.{Settled, settled, byAddress, plainly, dereferenced, settleOtherwise, settle}
 use Rattle.layers.proofs.Given.{not-given, given-is}
 
 module _ (c t : List Layer) (n : ℕ) (P : Settled → Type 0)

@@ -7,8 +7,8 @@ use Rattle.kinds.specs.Kind as kind
 use Rattle.layers.specs.Layers.{layers, outer}
 use Rattle.layers.specs.Answer.{Answer, next, truth}
 use Rattle.checks.specs.Check.{checkOf}
-use Rattle.forms.specs.declared.properties.Property.{Property}
-use Rattle.forms.specs.declared.properties.Property.the-variants as property
+use Rattle.outsides.specs.declared.properties.Property.{Property}
+use Rattle.outsides.specs.declared.properties.Property.the-variants as property
 
 -- The kinds that `is_signed`, `is_bitfield` and `is_integral` list.
 abbrev pub signed : ℕ → Bool

@@ -1,0 +1,5 @@
+// How a walk is settled.
+mod settlement;
+
+pub use settlement::Settling;
+pub use settlement::settle;
