@@ -1,27 +1,24 @@
 -- The type that is reached, as it is written and told.
 -- Assumes nothing.
-use mathlib.Core.Path.{_≡_, refl, sym, ap, _∙_}
+use mathlib.Core.Path.{_≡_, refl, ap, _∙_}
 use mathlib.Core.Bool.{Bool, true, false, cond}
 use mathlib.Core.List.{List, [], _∷_, _++_}
 use Prim.Native.Nat.{ℕ, _-_, _≤_}
 use native.Mathlib.Omega.{arith}
-use lib.Dec.{ltb}
-use lib.ListN.{length, take, drop}
-use Rattle.layers.specs.Layers.{Layer, layers, spelled}
+use lib.ListN.{take, drop}
+use Rattle.layers.specs.Layers.{Layer, layers}
 use Rattle.layers.specs.Answer as paper
 use Rattle.layers.specs.Answer.{given}
 use Rattle.layers.proofs.Words.{inner-layers}
-use Rattle.buffers.specs.Written.{written}
-use Rattle.outputs.specs.Outcome as outcome
 use Rattle.outputs.specs.Outcome.{answerIn, bufferIn}
 use Rattle.answers.specs.Flat.{flat}
 use Rattle.answers.specs.declared.flat.Answer.{Answer}
 use Rattle.moves.specs.Moves.{seen}
-use Rattle.arrivals.specs.Arrived.{addressed, arrived, delivered, over}
+use Rattle.arrivals.specs.Arrived.{addressed}
 
 -- what the walker tells, and what it leaves
 abbrev pub Tells : paper.Answer (List Layer) → List ℕ → Answer → List ℕ → Type 0
-Tells a out r out′ = (r ≡ flat (delivered (length out) a)) × (out′ ≡ over a out)
+Tells a out r out′ = (r ≡ flat (answerIn out a)) × (out′ ≡ bufferIn out a)
 
 -- a Pointer and an Arraylike
 abbrev both : List ℕ
@@ -56,23 +53,5 @@ module _ (address b : Bool) (i j : ℕ) (p : i ≡ cond address 0 3) (q : j ≡ 
   pub told : (ws rest out out′ : List ℕ) (r : Answer) (k : paper.Answer ℕ) → rest ≡ cond b (drop 3 ws) ws →
       (k ≡ answerIn out (given (layers (take (j - i) (drop i both)) ++ layers rest)))
       × (out′ ≡ bufferIn out (given (layers (take (j - i) (drop i both)) ++ layers rest))) →
-      r ≡ flat k → Tells (arrived address (seen ws b)) out r out′
-  unfolding arrived delivered over outcome.delivered outcome.told outcome.over written
-  told ws rest out out′ r k e t u =
-      let v = rw (reached ws rest e) at t in
-      (u ∙ ap flat (v .0 ∙ by-answer (ltb 16 (length type)) (ltb (length out) (length (spelled type))) refl), v .1 ∙ by-buffer (ltb 16 (length type)) (ltb (length out) (length (spelled type))) refl)
-    where
-      type : List Layer
-      type = addressed address (seen ws b)
-
-      by-answer : (f g : Bool) → ltb (length out) (length (spelled type)) ≡ g →
-          outcome.told (cond f (paper.refused 15 0) (cond g (paper.refused 14 0) (given type))) ≡ delivered (length out) (cond f (paper.refused 15 0) (given type))
-      by-answer true g h = refl
-      by-answer false true h = rw h
-      by-answer false false h = rw h
-
-      by-buffer : (f g : Bool) → ltb (length out) (length (spelled type)) ≡ g →
-          outcome.over (cond f (paper.refused 15 0) (cond g (paper.refused 14 0) (given type))) out ≡ over (cond f (paper.refused 15 0) (given type)) out
-      by-buffer true g h = refl
-      by-buffer false true h = rw h
-      by-buffer false false h = rw h
+      r ≡ flat k → Tells (given (addressed address (seen ws b))) out r out′
+  told ws rest out out′ r k e t u = let v = rw (reached ws rest e) at t in (u ∙ ap flat (v .0), v .1)

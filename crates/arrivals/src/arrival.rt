@@ -5,10 +5,12 @@ use layers::inner;
 use outputs::write_type;
 ghost use mathlib.Core.Path.{_≡_};
 ghost use mathlib.Core.Bool.{cond};
-ghost use lib.ListN.{length, drop};
+ghost use lib.ListN.{drop};
+ghost use Rattle.layers.specs.Answer.{given};
+ghost use Rattle.outputs.specs.Outcome.{answerIn, bufferIn};
 ghost use Rattle.answers.specs.Flat.{flat};
 ghost use Rattle.moves.specs.Moves.{seen};
-ghost use Rattle.arrivals.specs.Arrived as rules;
+ghost use Rattle.arrivals.specs.Arrived.{addressed};
 
 // The words that stay: those behind the outer layer, where that counts as Arraylike.
 fn staying(cur: &[u64], desliced: bool) -> &[u64]
@@ -35,8 +37,8 @@ fn front_end(desliced: bool) -> usize
 
 // The arrival at the type at these words, whose outer layer counts as Arraylike where desliced is set, or at its address.
 pub fn arrive(out: &mut [u64], cur: &[u64], desliced: bool, address: bool) -> Answer
-    ensures answer { λ r. ⌜ r ≡ flat (rules.delivered (length (now (out .entry))) (rules.arrived address (seen (now (cur .entry)) desliced))) ⌝ }
-    ensures written { λ _. ⌜ now (out .exit) ≡ rules.over (rules.arrived address (seen (now (cur .entry)) desliced)) (now (out .entry)) ⌝ }
+    ensures answer { λ r. ⌜ r ≡ flat (answerIn (now (out .entry)) (given (addressed address (seen (now (cur .entry)) desliced)))) ⌝ }
+    ensures written { λ _. ⌜ now (out .exit) ≡ bufferIn (now (out .entry)) (given (addressed address (seen (now (cur .entry)) desliced))) ⌝ }
 {
     let front = [Kind::POINTER, 0, 0, Kind::ARRAYLIKE, 0, 0];
     let start = front_start(address);

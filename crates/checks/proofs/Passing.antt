@@ -11,7 +11,7 @@ use borrow.Author.Tests.{ltb-false, le-ltb, eqb-false, eq-eqb, ne-eqb, not-true,
 use Rattle.layers.specs.Layers.{layers, holdsInner}
 use Rattle.layers.specs.Answer.{given, refused}
 use Rattle.checks.specs.Check.{Place, at, nowhere, badCount, goodLayer, badLayer, misplaced, unless, checkOf, isGood}
-use Rattle.layers.proofs.Decide.{both}
+use Rattle.layers.proofs.Decide.{both, neither}
 use Rattle.checks.proofs.Checks.{layerAt, Passed, start, turn, miscounted, bad, fine}
 
 -- a misplaced layer is refused, if not for itself
@@ -63,10 +63,6 @@ module _ (ws : List ℕ) where
         ahead = omega (arith, eqb-false (length ws) 0 (n .0));
         so-far = start ws;
       }
-    where
-      neither : (a b : Bool) → (a || b) ≡ false → (a ≡ false) × (b ≡ false)
-      neither true b e = absurd (true≢false e)
-      neither false b e = (refl, e)
 
   fails-count : badCount (length ws) ≡ true → false ≡ isGood (checkOf ws)
   fails-count c = rw (← miscounted ws c)

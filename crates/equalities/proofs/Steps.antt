@@ -7,10 +7,11 @@ use Prim.Native.Nat.{ℕ, _≤_, _<_}
 use native.Mathlib.Omega.{arith}
 use lib.Dec.{eqb, ltb}
 use lib.ListN.{length}
-use borrow.Author.Tests.{le-ltb, eqb-true, eqb-false}
+use borrow.Author.Tests.{le-ltb, eqb-true}
 use Rattle.kinds.specs.Kind as kind
 use Rattle.layers.specs.Layers.{Layer, layers, head}
 use Rattle.layers.proofs.Words.{rest, none, more}
+use Rattle.layers.proofs.Decide.{eqb-sym}
 use Rattle.equalities.specs.Equalities.{sameLayer, identical, plainKind, plainLayer, plain, equals}
 
 pub no-layer : (b : List ℕ) → ltb (length b) 3 ≡ identical [] (layers b)
@@ -64,15 +65,6 @@ module _ (a b : List ℕ) where
 -- two kinds are the same after Char8 is replaced, if they are the same before or the one is the other's alias
 abbrev alias : ℕ → ℕ → Bool
 alias k l = eqb k kind.char8 && eqb l kind.uint8
-
-flip : (k l : ℕ) (u v : Bool) → eqb k l ≡ u → eqb l k ≡ v → u ≡ v
-flip k l true true p q = refl
-flip k l true false p q = absurd (eqb-false l k q (sym (eqb-true k l p)))
-flip k l false true p q = absurd (eqb-false k l p (sym (eqb-true l k q)))
-flip k l false false p q = refl
-
-eqb-sym : (k l : ℕ) → eqb k l ≡ eqb l k
-eqb-sym k l = flip k l (eqb k l) (eqb l k) refl refl
 
 replaced : (k l : ℕ) (u v : Bool) → eqb k kind.char8 ≡ u → eqb l kind.char8 ≡ v →
     (eqb k l || alias k l || alias l k) ≡ eqb (plainKind k) (plainKind l)

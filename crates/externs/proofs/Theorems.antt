@@ -1,7 +1,7 @@
 -- What follows from the rules of extern fixing.
 -- Assumes nothing.
 use mathlib.Core.Path.{_≡_, refl, sym, _∙_}
-use mathlib.Core.Bool.{Bool, true, false, cond, _&&_, _||_, false≢true}
+use mathlib.Core.Bool.{Bool, true, false, cond, _&&_, _||_, or-false, false≢true}
 use mathlib.Core.List.{List, [], _∷_}
 use Prim.Native.Nat.{ℕ, suc, _+_, _/_}
 use native.Mathlib.Omega.{arith}
@@ -11,9 +11,10 @@ use borrow.Author.Tests.{eqb-true}
 use Rattle.kinds.specs.Kind as kind
 use Rattle.layers.specs.Layers.{Layer, layer, layers, outer, inside, isReference, holdsInner, spelled}
 use Rattle.layers.specs.Answer.{Answer, given, nothing, refused, next}
+use Rattle.layers.proofs.Decide.{both}
 use Rattle.checks.specs.Check.{Place, at, nowhere, badCount, badLayer, misplaced, checkOf, unless}
 use Rattle.forms.specs.Formed.{wellFormed, inner, element}
-use Rattle.forms.proofs.Fits.{one, or, references, or-false}
+use Rattle.forms.proofs.Fits.{one, or, references}
 use Rattle.natives.specs.Fixed.{parameter, returned, member, fixedPlain}
 use Rattle.externs.specs.Fixing.{under, kept, externalized, externalize, fixedExtern, fixed}
 use Rattle.outputs.specs.Outcome.{delivered}
@@ -59,10 +60,6 @@ extern-length a b e = by-kind (eqb (outer a) kind.arraylike) refl e
         rw (i .is) (omega (arith, n, there kind.arraylike a k refl))
     by-kind false k e = omega (arith, same-length 0 a b (from-externalize 0 a b e))
 
-each : (x y : Bool) → (x && y) ≡ true → (x ≡ true) × (y ≡ true)
-each true y e = (refl, e)
-each false y e = absurd (false≢true e)
-
 plain-length : (context : ℕ) (a : List Layer) →
     length (fixedPlain context a) + count (oneLess false a) ≡ length a + count (oneMore false context a)
 unfolding fixedPlain
@@ -80,11 +77,11 @@ plain-length context a =
         let pn : false ≡ p = rw k at g in
         rw (← sn, ← pn) (omega (arith, there kind.arraylike a e refl))
     by-kind false true p e f g =
-        let k = eqb-true (outer a) kind.struct (each (eqb (outer a) kind.struct) (eqb context parameter || eqb context returned) f .0) in
+        let k = eqb-true (outer a) kind.struct (both (eqb (outer a) kind.struct) (eqb context parameter || eqb context returned) f .0) in
         let pn : false ≡ p = rw k at g in
         rw (← pn) (omega arith)
     by-kind false false true e f g =
-        let h = each (eqb (outer a) kind.pointer) (eqb (outer (inside a)) kind.arraylike) g in
+        let h = both (eqb (outer a) kind.pointer) (eqb (outer (inside a)) kind.arraylike) g in
         omega (arith, there kind.pointer a (h .0) refl, there kind.arraylike (inside a) (h .1) refl)
     by-kind false false false e f g = refl
 

@@ -1,7 +1,7 @@
 -- Well formed, by the outer kind and by what is inside.
 -- Assumes nothing.
 use mathlib.Core.Path.{_≡_, refl, sym, _∙_, ap, subst}
-use mathlib.Core.Bool.{Bool, true, false, not, _&&_, _||_, and-true, and-false, true≢false}
+use mathlib.Core.Bool.{Bool, true, false, not, _&&_, _||_, or-false, and-true, and-false, true≢false}
 use mathlib.Core.List.{List}
 use Prim.Native.Nat.{ℕ, _≤_, _<_}
 use lib.Dec.{eqb}
@@ -10,6 +10,7 @@ use borrow.Author.Tests.{eqb-true, ne-eqb, not-true, not-false}
 use Rattle.kinds.specs.Kind as kind
 use Rattle.layers.specs.Layers.{layers, outer, inside, isArray, isSlice, isReference, holdsInner}
 use Rattle.layers.proofs.Words.{none, more, rest, outer-more}
+use Rattle.layers.proofs.Decide.{neither}
 use Rattle.forms.specs.Formed.{inner, element, wellFormed}
 
 -- what holds of each kind that a test lists holds of the kind that passed the test
@@ -29,15 +30,6 @@ module _ (P : ℕ → Type 0) (k : ℕ) where
 
   pub references : isReference k ≡ true → P 23 → P 24 → P k
   references t a b = or _ 24 t b (λ t. one 23 t a)
-
--- a test that failed, taken apart
-last : (a b : Bool) → (a || b) ≡ false → b ≡ false
-last false b e = e
-last true b e = absurd (true≢false e)
-
-pub or-false : (b : Bool) → (b || false) ≡ b
-or-false true = refl
-or-false false = refl
 
 -- whether a type is an Inner, an Element, a Type: by its outer kind, where what is inside is an Element (e), an Inner (i)
 abbrev asInner : ℕ → Bool → Bool → Bool
@@ -146,7 +138,7 @@ module _ (a : List ℕ) where
       unfolding element
       element-held p t e =
           let k = getD a 0 0 in
-          let n = last (noInner k) (eqb k 18) (not-true _ (sym p ∙ t)) in
+          let n = neither (noInner k) (eqb k 18) (not-true _ (sym p ∙ t)) .1 in
           rw (← outer-more a h, n, and-true) e
 
       pub inner-array : f ≡ isArray (getD a 0 0) → f ≡ true → r ≡ element (layers (rest a)) → r ≡ inner (layers a)

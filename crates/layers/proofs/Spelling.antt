@@ -6,7 +6,7 @@ use Prim.Native.Nat.{ℕ, zero, suc, _+_, _*_, _%_}
 use native.Mathlib.Omega.{arith}
 use lib.ListN.{length, drop}
 use lib.Seq.{drop-drop, drop-nil}
-use Rattle.layers.specs.Layers.{Layer, layer, layers, inside, spelled}
+use Rattle.layers.specs.Layers.{Layer, layers, inside, spelled}
 use Rattle.layers.proofs.Words.{inner-layers}
 
 pub spelled-length : (a : List Layer) → length (spelled a) ≡ 3 * length a

@@ -9,12 +9,19 @@ use lib.Seq.{take-all}
 use lib.Dec.{T, leb, leb→le}
 use Rattle.layers.specs.Layers.{layers, outer, inside, head, Whole}
 
--- the words from the fourth on, as the code takes them
+-- the words from a place on, as the code takes them
+abbrev pub part : List ℕ → ℕ → List ℕ
+part a i = take (length a - i) (drop i a)
+
+pub part-is : (a : List ℕ) (i : ℕ) → part a i ≡ drop i a
+part-is a i = take-all (length a - i) (drop i a) (simp length-drop (omega arith))
+
+-- those from the fourth on
 abbrev pub rest : List ℕ → List ℕ
-rest a = take (length a - 3) (drop 3 a)
+rest a = part a 3
 
 pub rest-is : (a : List ℕ) → rest a ≡ drop 3 a
-rest-is a = take-all (length a - 3) (drop 3 a) (simp length-drop (omega arith))
+rest-is a = part-is a 3
 
 pub none : (a : List ℕ) → length a < 3 → layers a ≡ []
 unfolding layers

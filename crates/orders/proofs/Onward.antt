@@ -9,15 +9,16 @@ use native.Mathlib.Nat.{zero-add, not-suc-le-zero}
 use native.Mathlib.Omega.{arith}
 use lib.Dec.{eqb, leb}
 use lib.ListN.{length, take, drop, getD, set, length-take, length-drop, length-set}
-use lib.Seq.{take-all, drop-drop, getD-set-same, getD-set-other}
-use borrow.Author.Tests.{lt-leb, eq-eqb, ne-eqb, eqb-true, eqb-false}
-use Rattle.layers.proofs.Decide.{both}
+use lib.Seq.{drop-drop, getD-set-same, getD-set-other}
+use borrow.Author.Tests.{lt-leb, ne-eqb, eqb-true, eqb-false}
+use Rattle.layers.proofs.Decide.{both, neither, eqb-sym}
+use Rattle.layers.proofs.Words.{part, part-is}
 use Rattle.columns.specs.declared.symbol.Symbol.{Symbol}
 use Rattle.columns.specs.Rows.{free, rowAt, readFrom}
 use Rattle.columns.proofs.Reading.{from, read-more, read-end, read-all, read-last, length-read}
 use Rattle.orders.specs.Order.{knownStates, allFree, takenFirst, taken, hasId, repeats, passes, allPass, inOrder}
 use Rattle.orders.specs.Standing.{stands, Noted}
-use Rattle.orders.proofs.Ordered.{ordered, in-order, none-taken, or-false}
+use Rattle.orders.proofs.Ordered.{ordered, in-order, none-taken}
 
 -- the pass from a record on
 unfoldable pub onward : Bool → List Symbol → List Symbol → List ℕ → Bool
@@ -28,13 +29,6 @@ onward after before (s ∷ t) w = stands after before s w && onward (free s) (be
 unfoldable crosses : List Symbol → List Symbol → Bool
 crosses before [] = false
 crosses before (s ∷ t) = hasId (s .id) before || crosses before t
-
-turn : (a b : ℕ) → eqb a b ≡ eqb b a
-turn a b = by-test (eqb b a) refl
-  where
-    by-test : (t : Bool) → eqb b a ≡ t → eqb a b ≡ t
-    by-test true e = eq-eqb a b (sym (eqb-true b a e))
-    by-test false e = ne-eqb a b (λ q. eqb-false b a e (sym q))
 
 one-more : (id : ℕ) (before : List Symbol) (s : Symbol) → hasId id (before ++ (s ∷ [])) ≡ (hasId id before || eqb (s .id) id)
 unfolding hasId
@@ -55,7 +49,7 @@ crosses-more before [] s = refl
 crosses-more before (x ∷ t) s =
     (λ i. one-more (x .id) before s i || crosses-more before t s i)
     ∙ by-tests (hasId (x .id) before) (eqb (s .id) (x .id)) (crosses before t)
-    ∙ ap (λ (b : Bool). hasId (x .id) before || crosses before t || (b || hasId (s .id) t)) (turn (s .id) (x .id))
+    ∙ ap (λ (b : Bool). hasId (x .id) before || crosses before t || (b || hasId (s .id) t)) (eqb-sym (s .id) (x .id))
   where
     by-tests : (a b c : Bool) → (a || b || (c || hasId (s .id) t)) ≡ (a || c || (b || hasId (s .id) t))
     by-tests true b c = refl
@@ -127,7 +121,7 @@ module _ (before : List Symbol) (s : Symbol) (t : List Symbol) (w : List ℕ) wh
     unfolding knownStates takenFirst taken crosses repeats allPass
     left-taken e r =
         let p = stands-by e in
-        let a = or-false (crosses before (taken t)) (hasId (s .id) (taken t)) (sym (crosses-more before (taken t) s) ∙ r .apart) in
+        let a = neither (crosses before (taken t)) (hasId (s .id) (taken t)) (sym (crosses-more before (taken t) s) ∙ r .apart) in
         record {
           states = rw (p .0) (r .states);
           first = rw q (r .first);
@@ -140,8 +134,8 @@ module _ (before : List Symbol) (s : Symbol) (t : List Symbol) (w : List ℕ) wh
     unfolding stands knownStates takenFirst taken crosses repeats allPass
     taken-left r =
         let k = both (leb (s .state) 2) (knownStates t) (r .states) in
-        let a = or-false (hasId (s .id) before) (crosses before (taken t)) (rw q at (r .apart)) in
-        let i = or-false (hasId (s .id) (taken t)) (repeats (taken t)) (rw q at (r .ids)) in
+        let a = neither (hasId (s .id) before) (crosses before (taken t)) (rw q at (r .apart)) in
+        let i = neither (hasId (s .id) (taken t)) (repeats (taken t)) (rw q at (r .ids)) in
         let p = both (passes (s .state) (s .layers) w) (allPass t (drop 48 w)) (r .pass) in (
           rw (q, k .0, a .0) (p .0),
           record {
@@ -199,13 +193,6 @@ one-pass table w few full =
     let o = ordered table w e in
     of-left [] table w (record { states = o .states; first = o .first; apart = apart-from-none (taken table); ids = o .ids; pass = o .pass }))
 
--- the part of a store from i on, as the code takes it
-abbrev pub part : List ℕ → ℕ → List ℕ
-part a i = take (length a - i) (drop i a)
-
-whole : (a : List ℕ) (i : ℕ) → part a i ≡ drop i a
-whole a i = take-all (length a - i) (drop i a) (simp length-drop (omega arith))
-
 -- the loop
 module _ (ws w : List ℕ) (n : ℕ) where
   abbrev table : List Symbol
@@ -234,7 +221,7 @@ module _ (ws w : List ℕ) (n : ℕ) where
       unfolding onward
       turns =
           let m : (k + 1) * 48 ≡ k * 48 + 48 = omega arith in
-          rw (q, whole w (k * 48), read-last ws 0 k, zero-add k, m, ← drop-drop 48 (k * 48) w) (rw (read-more ws n k h) at e)
+          rw (q, part-is w (k * 48), read-last ws 0 k, zero-add k, m, ← drop-drop 48 (k * 48) w) (rw (read-more ws n k h) at e)
 
       pub breaks : r ≡ false → false ≡ v
       breaks t = rw t at turns

@@ -1,7 +1,7 @@
 -- What is known of a table that is in order, sentence by sentence; and that these sentences make it so.
 -- Assumes nothing.
 use mathlib.Core.Path.{_≡_, refl, ap, subst, _∙_}
-use mathlib.Core.Bool.{Bool, true, false, not, _&&_, _||_, true≢false}
+use mathlib.Core.Bool.{true, false, not, _&&_}
 use mathlib.Core.List.{List, [], _∷_}
 use Prim.Native.Nat.{ℕ, zero, suc, _+_, _*_, _≤_, _<_}
 use native.Mathlib.Nat.{not-suc-le-zero}
@@ -54,11 +54,6 @@ module _ (table : List Symbol) (store : List ℕ) where
   unfolding inOrder
   in-order o =
       rw (le-leb (length table) 128 (o .few), o .states, o .first, o .ids, o .pass, eq-eqb (length store) (length table * 48) (o .full))
-
--- neither of two tests
-pub or-false : (a b : Bool) → (a || b) ≡ false → (a ≡ false) × (b ≡ false)
-or-false true b e = absurd (true≢false e)
-or-false false b e = (refl, e)
 
 -- free records only: none is taken
 pub none-taken : (table : List Symbol) → allFree table ≡ true → taken table ≡ []

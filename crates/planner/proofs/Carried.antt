@@ -23,6 +23,7 @@ use Rattle.layers.specs.Answer.{Answer, given, nothing, refused, next}
 use Rattle.checks.specs.Check.{checkOf, isGood}
 use Rattle.layers.proofs.Given.{not-given, nothing-given, given-is}
 use Rattle.checks.proofs.Accepted.{goodLayers, accepted-good}
+use Rattle.checks.proofs.Refusals.{next-next}
 use Rattle.layers.proofs.Spelling.{spelled-length, layers-spelled}
 use Rattle.buffers.specs.Written.{written}
 use Rattle.buffers.proofs.Writing.{fits}
@@ -116,11 +117,6 @@ after (given x) d p e = e
 after nothing d p e = e
 after (refused n q) d p e = absurd (not-given n q p e)
 
-in-turn : {A B C : Type 0} (a : Answer A) (b : Answer B) (c : Answer C) → next (next a b) c ≡ next a (next b c)
-in-turn (given x) b c = refl
-in-turn nothing b c = refl
-in-turn (refused n q) b c = refl
-
 abbrev Delivered : ℕ → ℕ → Answer Plan → Plan → Type 0
 Delivered room wide a p = (a ≡ given p) × (length (stepWords (p .steps)) ≤ room) × (length (spelled (p .type)) ≤ wide)
 
@@ -155,7 +151,7 @@ module _ (table : List Symbol) (store known asked target : List ℕ) (depth limi
   unfolding planAnswer planned
   by-answer room wide p e =
       let first = passed known (next (next (checkOf target) (limits asked limit)) (planned table store known asked target depth limit room wide)) p
-      (sym (in-turn (checkOf known) (next (checkOf target) (limits asked limit)) (planned table store known asked target depth limit room wide)) ∙ e) in
+      (sym (next-next (checkOf known) (next (checkOf target) (limits asked limit)) (planned table store known asked target depth limit room wide)) ∙ e) in
       let rest = after (next (checkOf target) (limits asked limit)) (planned table store known asked target depth limit room wide) p (first .1) in
       let order = by-order room wide p (inOrder table store) refl rest in
       let there = by-room room wide planned-by p (order .1) in (

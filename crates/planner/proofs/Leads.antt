@@ -6,7 +6,6 @@ use mathlib.Core.Bool.{Bool, true, false, cond}
 use mathlib.Core.List.{List, _∷_, map}
 use Prim.Native.Nat.{ℕ}
 use lib.ListN.{take, drop}
-use Rattle.kinds.specs.Kind as kind
 use Rattle.layers.specs.Layers.{Layer, outer, inside}
 use Rattle.layers.specs.Answer.{given, refused}
 use Rattle.forms.specs.Formed.{wellFormed}

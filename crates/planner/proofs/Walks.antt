@@ -5,7 +5,7 @@ use mathlib.Core.Path.{_≡_, refl, sym, subst, _∙_}
 use mathlib.Core.Bool.{Bool, true, false, cond}
 use mathlib.Core.Logic.{_⊎_, inl, inr, ⊎-elim}
 use mathlib.Core.List.{List, [], _∷_, _++_, map, map-append}
-use Prim.Native.Nat.{ℕ, zero, suc, _+_, _≤_}
+use Prim.Native.Nat.{ℕ, zero, suc, _+_}
 use native.Mathlib.Omega.{arith}
 use lib.Dec.{eqb, leb}
 use lib.ListN.{length, take, drop, length-drop}
@@ -15,9 +15,9 @@ use Rattle.layers.specs.Answer.{Answer, given, nothing, refused}
 use Rattle.steps.specs.StepKind as of-step
 use Rattle.steps.specs.Steps.{Step}
 use Rattle.turns.specs.declared.turn.Turn.{Turn}
-use Rattle.turns.specs.declared.turn.Turn.the-variants.{Stuck, Auto, Element, Desliced, Member}
 use Rattle.walker.specs.Walker.{Where, at, stuck, Stored, act, then, walker}
 use Rattle.rounds.specs.Walk.{Walk, ended, stopped, stepsOf, takenBy, goes, turnOf, prepend, onward, walk}
+use Rattle.rounds.proofs.Turning.{took-few}
 use Rattle.planner.specs.Demand.{asked, unmarked, rounds}
 use Rattle.planner.proofs.Leads.{leads, takes, turns-once}
 
@@ -40,13 +40,6 @@ rounds-append (s ∷ ss) us = by-kind (eqb (s .kind) of-step.autodeslice) (round
         cond f (rounds (ss ++ us)) (rounds (ss ++ us) + 1) ≡ cond f (rounds ss) (rounds ss + 1) + rounds us
     by-kind true i = i
     by-kind false i = omega (arith, i)
-
-taken-few : (r : Turn) → takenBy r ≤ 1
-taken-few Stuck = omega arith
-taken-few (Auto k) = omega arith
-taken-few (Element m l) = omega arith
-taken-few (Desliced m) = omega arith
-taken-few Member = omega arith
 
 module _ (stored : ℕ → Stored) where
   -- what holds where a walk leaves off, and of a round before a walk of which it holds, holds of every walk that ends
@@ -124,6 +117,6 @@ module _ (stored : ℕ → Stored) where
         (λ n t a q u us j c g h.
         ⊎-elim
         (λ (i : j ≡ length (drop (takenBy (turnOf stored t a)) (a ∷ q))).
-        inl (omega (arith, i, length-drop (takenBy (turnOf stored t a)) (a ∷ q), taken-few (turnOf stored t a))))
+        inl (omega (arith, i, length-drop (takenBy (turnOf stored t a)) (a ∷ q), took-few (turnOf stored t a))))
         (λ (i : rounds us ≡ n). inr (rounds-append (stepsOf a (turnOf stored t a)) us ∙ rw (turns-once stored t a u g, i) (omega arith))) h)
         n t q ss k c e

@@ -6,11 +6,11 @@ use mathlib.Core.List.{List, _∷_}
 use Prim.Native.Nat.{ℕ, _-_, _≤_, _<_}
 use native.Mathlib.Omega.{arith}
 use lib.Dec.{eqb}
-use lib.ListN.{length, getD, take, drop, length-drop, drop-of-length-le, List·getD-eq-default}
-use lib.Seq.{take-all, drop-length}
+use lib.ListN.{length, getD, take, drop, drop-of-length-le, List·getD-eq-default}
+use lib.Seq.{drop-length}
 use borrow.Author.Tests.{eq-eqb, ne-eqb}
 use Rattle.layers.specs.Layers.{layers, outer, head, Whole}
-use Rattle.layers.proofs.Words.{none, more, rest, inner-layers, inner-whole}
+use Rattle.layers.proofs.Words.{none, more, rest, inner-layers, inner-whole, part-is}
 use Rattle.forms.specs.Formed.{wellFormed}
 use Rattle.steps.proofs.Words.{stepAt}
 use Rattle.turns.specs.Turns.{turn}
@@ -69,7 +69,7 @@ module _ (members : ℕ → List ℕ) (ws : List ℕ) (handle : ℕ) (t : Turn) 
 
 -- a part that runs to the end
 pub to-end : (q : List ℕ) (a : ℕ) → take (length q - a) (drop a q) ≡ drop a q
-to-end q a = take-all (length q - a) (drop a q) (simp length-drop (omega arith))
+to-end q a = part-is q a
 
 pub to-end-past : (q : List ℕ) (a : ℕ) → length q < a → take (length q - length q) (drop (length q) q) ≡ drop a q
 to-end-past q a h =

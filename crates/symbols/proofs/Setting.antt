@@ -10,47 +10,34 @@ use native.Mathlib.Omega.{arith}
 use lib.Dec.{eqb, leb}
 use lib.ListN.{length, take, drop, getD, set, length-drop}
 use lib.Seq.{take-append-le, drop-append-le, take-take, drop-drop, take-add, drop-at, drop-append-add, length-take-le}
-use borrow.Author.Tests.{leb-true, eqb-false, eq-eqb, ne-eqb}
+use borrow.Author.Tests.{leb-true, eq-eqb}
 use Rattle.columns.specs.declared.symbol.Symbol.{Symbol}
 use Rattle.columns.specs.Rows.{vacant, free}
 use Rattle.columns.specs.Search.{firstFree, slotFor}
 use Rattle.orders.specs.Order.{knownStates, allFree, takenFirst, taken, hasId, repeats, passes, allPass}
 use Rattle.checks.specs.Check.{checkOf, isGood}
-use Rattle.layers.proofs.Decide.{both}
-use Rattle.orders.proofs.Ordered.{or-false}
-
-and-true-first : (a b : Bool) → (a && b) ≡ true → a ≡ true
-and-true-first a b e = both a b e .0
-
-and-true-second : (a b : Bool) → (a && b) ≡ true → b ≡ true
-and-true-second a b e = both a b e .1
-
-or-false-first : (a b : Bool) → (a || b) ≡ false → a ≡ false
-or-false-first a b e = or-false a b e .0
-
-or-false-second : (a b : Bool) → (a || b) ≡ false → b ≡ false
-or-false-second a b e = or-false a b e .1
+use Rattle.layers.proofs.Decide.{both, neither, eqb-sym}
 
 -- "states are 0 to 2"
 pub states-set : (table : List Symbol) (k : ℕ) (s : Symbol) → knownStates table ≡ true → leb (s .state) 2 ≡ true → knownStates (set table k s) ≡ true
 unfolding knownStates
 states-set [] k s e h = e
-states-set (x ∷ table) zero s e h = rw h (and-true-second (leb (x .state) 2) (knownStates table) e)
+states-set (x ∷ table) zero s e h = rw h (both (leb (x .state) 2) (knownStates table) e .1)
 states-set (x ∷ table) (suc k) s e h =
-    rw (and-true-first (leb (x .state) 2) (knownStates table) e) (states-set table k s (and-true-second (leb (x .state) 2) (knownStates table) e) h)
+    rw (both (leb (x .state) 2) (knownStates table) e .0) (states-set table k s (both (leb (x .state) 2) (knownStates table) e .1) h)
 
 pub state-at : (table : List Symbol) (k : ℕ) → knownStates table ≡ true → k < length table → leb (getD table k vacant .state) 2 ≡ true
 unfolding knownStates
 state-at [] k e h = absurd (not-suc-le-zero h)
-state-at (x ∷ table) zero e h = and-true-first (leb (x .state) 2) (knownStates table) e
-state-at (x ∷ table) (suc k) e h = state-at table k (and-true-second (leb (x .state) 2) (knownStates table) e) (omega arith)
+state-at (x ∷ table) zero e h = both (leb (x .state) 2) (knownStates table) e .0
+state-at (x ∷ table) (suc k) e h = state-at table k (both (leb (x .state) 2) (knownStates table) e .1) (omega arith)
 
 -- "taken records precede free ones"
 all-free-at : (table : List Symbol) (k : ℕ) → allFree table ≡ true → k < length table → free (getD table k vacant) ≡ true
 unfolding allFree
 all-free-at [] k e h = absurd (not-suc-le-zero h)
-all-free-at (x ∷ table) zero e h = and-true-first (free x) (allFree table) e
-all-free-at (x ∷ table) (suc k) e h = all-free-at table k (and-true-second (free x) (allFree table) e) (omega arith)
+all-free-at (x ∷ table) zero e h = both (free x) (allFree table) e .0
+all-free-at (x ∷ table) (suc k) e h = all-free-at table k (both (free x) (allFree table) e .1) (omega arith)
 
 pub first-set : (table : List Symbol) (k : ℕ) (s : Symbol) → takenFirst table ≡ true → k < length table →
     free (getD table k vacant) ≡ false → free s ≡ false → takenFirst (set table k s) ≡ true
@@ -67,7 +54,7 @@ first-set (x ∷ table) (suc k) s e h was now = by-first (free x) e (λ f. first
 all-free-first : (table : List Symbol) → allFree table ≡ true → takenFirst table ≡ true
 unfolding takenFirst allFree
 all-free-first [] e = refl
-all-free-first (x ∷ table) e = rw (and-true-first (free x) (allFree table) e) (and-true-second (free x) (allFree table) e)
+all-free-first (x ∷ table) e = rw (both (free x) (allFree table) e .0) (both (free x) (allFree table) e .1)
 
 pub first-new : (table : List Symbol) (s : Symbol) → takenFirst table ≡ true → firstFree table < length table → free s ≡ false →
     takenFirst (set table (firstFree table) s) ≡ true
@@ -133,10 +120,10 @@ id-new j (x ∷ table) s e h now a b = by-first (free x) refl e h a (λ f g c. i
         hasId j (taken (set (x ∷ table) (cond t 0 (suc (firstFree table))) s)) ≡ false
     by-first true q f g c ih = rw (now, b) c
     by-first false q f g c ih =
-        rw (q, or-false-first (eqb (x .id) j) (hasId j (taken table)) c) (ih f (omega arith) (or-false-second (eqb (x .id) j) (hasId j (taken table)) c))
+        rw (q, (neither (eqb (x .id) j) (hasId j (taken table)) c .0)) (ih f (omega arith) (neither (eqb (x .id) j) (hasId j (taken table)) c .1))
 
 pub turned-round : (a b : ℕ) → eqb a b ≡ false → eqb b a ≡ false
-turned-round a b e = ne-eqb b a (λ q. eqb-false a b e (sym q))
+turned-round a b e = eqb-sym b a ∙ e
 
 pub ids-new : (table : List Symbol) (s : Symbol) → takenFirst table ≡ true → firstFree table < length table → free s ≡ false →
     hasId (s .id) (taken table) ≡ false → repeats (taken table) ≡ false → repeats (taken (set table (firstFree table) s)) ≡ false
@@ -151,10 +138,10 @@ ids-new (x ∷ table) s e h now a b = by-first (free x) refl e h a b (λ f g c d
         repeats (taken (set (x ∷ table) (cond t 0 (suc (firstFree table))) s)) ≡ false
     by-first true q f g c d ih = rw (now, c) d
     by-first false q f g c d ih =
-        let other = turned-round (x .id) (s .id) (or-false-first (eqb (x .id) (s .id)) (hasId (s .id) (taken table)) c) in
-        let none = or-false-first (hasId (x .id) (taken table)) (repeats (taken table)) d in
+        let other = turned-round (x .id) (s .id) (neither (eqb (x .id) (s .id)) (hasId (s .id) (taken table)) c .0) in
+        let none = neither (hasId (x .id) (taken table)) (repeats (taken table)) d .0 in
         rw (q, id-new (x .id) table s f (omega arith) now none other)
-        (ih f (omega arith) (or-false-second (eqb (x .id) (s .id)) (hasId (s .id) (taken table)) c) (or-false-second (hasId (x .id) (taken table)) (repeats (taken table)) d))
+        (ih f (omega arith) (neither (eqb (x .id) (s .id)) (hasId (s .id) (taken table)) c .1) (neither (hasId (x .id) (taken table)) (repeats (taken table)) d .1))
 
 -- "each typed record's words pass checks 1-3"
 -- a record's words are its first 48
@@ -176,7 +163,7 @@ pub pass-set : (table : List Symbol) (store : List ℕ) (k : ℕ) (s : Symbol) (
 unfolding allPass
 pass-set [] store k s ws e h full here rest = absurd (not-suc-le-zero h)
 pass-set (x ∷ table) store zero s ws e h full here rest =
-    rw (here, rest) (and-true-second (passes (x .state) (x .layers) store) (allPass table (drop 48 store)) e)
+    rw (here, rest) (both (passes (x .state) (x .layers) store) (allPass table (drop 48 store)) e .1)
 pass-set (x ∷ table) store (suc k) s ws e h full here rest =
     let n : suc k * 48 ≡ 48 + k * 48 = omega arith in
     let long : suc k * 48 ≤ length store = omega (arith, full) in
@@ -192,8 +179,8 @@ pass-set (x ∷ table) store (suc k) s ws e h full here rest =
     let tail : drop 48 (take (suc k * 48) store ++ ws) ≡ take (k * 48) (drop 48 store) ++ ws =
     drop-append-le 48 (take (suc k * 48) store) ws within ∙ ap (λ (l : List ℕ). l ++ ws) left in
     let sized : length (drop 48 store) ≡ length table * 48 = simp length-drop (omega (arith, full)) in
-    rw (passes-first (x .state) (x .layers) (take (suc k * 48) store ++ ws) store first, and-true-first (passes (x .state) (x .layers) store) (allPass table (drop 48 store)) e, tail)
-    (pass-set table (drop 48 store) k s ws (and-true-second (passes (x .state) (x .layers) store) (allPass table (drop 48 store)) e) (omega arith) sized here
+    rw (passes-first (x .state) (x .layers) (take (suc k * 48) store ++ ws) store first, (both (passes (x .state) (x .layers) store) (allPass table (drop 48 store)) e .0), tail)
+    (pass-set table (drop 48 store) k s ws (both (passes (x .state) (x .layers) store) (allPass table (drop 48 store)) e .1) (omega arith) sized here
     (rest ∙ ap (drop 48) (ap (λ (m : ℕ). drop m store) n ∙ sym (drop-drop (k * 48) 48 store))))
 
 -- the record that a search finds is taken

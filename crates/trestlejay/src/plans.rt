@@ -5,10 +5,10 @@ use planner::autoderef;
 use walks::walk;
 ghost use mathlib.Core.Path.{_≡_};
 ghost use lib.ListN.{length};
+ghost use Rattle.outputs.specs.Outcome.{answerIn, bufferIn};
 ghost use Rattle.answers.specs.Flat.{flat};
 ghost use Rattle.reports.specs.Report as report;
 ghost use Rattle.planner.specs.Answers as answers;
-ghost use Rattle.arrivals.specs.Arrived as arrivals;
 ghost use Rattle.walks.specs.Walked as walks;
 
 #[no_mangle]
@@ -39,8 +39,8 @@ pub extern "C" fn tj_walk<'a>(
     store: &'a [u64],
     out: &mut [u64],
 ) -> Answer
-    ensures { λ r. ⌜ (r ≡ flat (arrivals.delivered (length (now (out .entry))) (walks.walkTo (now (known .entry)) (now (steps .entry)) address (now (table .entry)) (now (store .entry)))))
-        × (now (out .exit) ≡ arrivals.over (walks.walkTo (now (known .entry)) (now (steps .entry)) address (now (table .entry)) (now (store .entry))) (now (out .entry))) ⌝ }
+    ensures { λ r. ⌜ (r ≡ flat (answerIn (now (out .entry)) (walks.walkTo (now (known .entry)) (now (steps .entry)) address (now (table .entry)) (now (store .entry)))))
+        × (now (out .exit) ≡ bufferIn (now (out .entry)) (walks.walkTo (now (known .entry)) (now (steps .entry)) address (now (table .entry)) (now (store .entry)))) ⌝ }
 {
     walk(known, steps, address, table, store, out)
 }

@@ -1,15 +1,16 @@
 -- What follows from the rule of the update alone.
 -- Assumes nothing.
 use mathlib.Core.Path.{_≡_, refl}
-use mathlib.Core.Bool.{Bool, true, false, cond, not, _&&_, _||_, false≢true}
+use mathlib.Core.Bool.{Bool, true, false, cond, not, _&&_, _||_}
 use mathlib.Core.List.{List}
 use Prim.Native.Nat.{ℕ, _*_, _/_, _%_, _≤_}
 use native.Mathlib.Omega.{arith}
-use lib.Dec.{eqb, leb}
+use lib.Dec.{eqb}
 use lib.ListN.{length}
 use lib.Seq.{take-append-seam}
-use borrow.Author.Tests.{eqb-true, le-leb, le-ltb}
+use borrow.Author.Tests.{eqb-true, le-ltb}
 use Rattle.layers.specs.Layers.{Layer, layers}
+use Rattle.layers.proofs.Decide.{both}
 use Rattle.forms.specs.Formed.{wellFormed}
 use Rattle.equalities.specs.Equalities.{identical}
 use Rattle.relations.specs.Relations.{declared, concretization}
@@ -19,11 +20,10 @@ use Rattle.buffers.specs.Written.{written}
 use Rattle.buffers.proofs.Writing.{fits, length-written}
 use Rattle.columns.specs.declared.symbol.Symbol.{Symbol}
 use Rattle.answers.specs.Flat.{accepted}
-use Rattle.updates.specs.Updates.{lineOf, answerBy, typed, recordBy, wordsBy, storedOf, lineAt, updated, wordsAfter}
+use Rattle.updates.specs.Updates.{lineOf, answerBy, recordBy, wordsBy, storedOf, lineAt, updated, wordsAfter}
 use Rattle.updates.specs.declared.lines.Line.{Line}
 use Rattle.updates.specs.declared.lines.Line.the-variants as line
 use Rattle.updates.specs.declared.record.Updated.{Updated}
-use Rattle.updates.proofs.Parts.{present}
 
 -- the lines, by the tests alone
 abbrev first : Bool → Bool → Bool → Bool → Bool → Line
@@ -51,10 +51,6 @@ knows false true true d b = refl
 knows false true false true b = refl
 knows false true false false true = refl
 knows false true false false false = tt
-
-left : (u v : Bool) → (u && v) ≡ true → u ≡ true
-left true v e = refl
-left false v e = absurd (false≢true e)
 
 -- What was written is what is stored.
 pub stored-written : (offered ws : List ℕ) → length offered ≤ length ws → length offered % 3 ≡ 0 →
@@ -118,7 +114,7 @@ module _ (s : Symbol) (ws : List ℕ) (id : ℕ) (authority : Bool) (place : ℕ
     stays-well-formed e = by-line (lineAt s ws authority offered) known
       where
         replaced : formed ≡ true → wellFormed (layers (storedOf (length offered / 3) (written offered ws))) ≡ true
-        replaced k = rw (stored-written offered ws h m) (left (wellFormed (layers offered)) (wellFormed stored) k)
+        replaced k = rw (stored-written offered ws h m) (both (wellFormed (layers offered)) (wellFormed stored) k .0)
 
         by-line : (l : Line) → Knows (eqb (s .state) 2) formed (holds stored) l → wellFormed (by l) ≡ true
         by-line line.Poisoned k = e

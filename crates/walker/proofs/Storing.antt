@@ -7,11 +7,12 @@ use Prim.Native.Nat.{ℕ, zero, suc, _+_, _*_, _-_, _/_, _≤_, _<_}
 use native.Mathlib.Nat.{zero-add}
 use native.Mathlib.Omega.{arith}
 use lib.Dec.{leb}
-use lib.ListN.{length, take, drop, getD, length-drop, drop-of-length-le, List·getD-eq-default}
+use lib.ListN.{length, take, drop, getD, drop-of-length-le, List·getD-eq-default}
 use lib.Seq.{take-all, take-nil, length-take-le, drop-drop}
 use borrow.Author.Tests.{lt-ltb, le-ltb, eq-eqb, ne-eqb}
 use Rattle.layers.specs.Layers.{Whole}
 use Rattle.layers.proofs.Decide.{yes, both}
+use Rattle.layers.proofs.Words.{part, part-is}
 use Rattle.checks.specs.Check.{checkOf, isGood}
 use Rattle.checks.proofs.Accepted.{good-whole}
 use Rattle.columns.specs.Rows.{vacant, rowAt, readFrom, typed}
@@ -22,13 +23,6 @@ use Rattle.columns.proofs.Reading.{getD-read, length-read}
 use Rattle.columns.proofs.Searching.{slot-is}
 use Rattle.orders.proofs.Ordered.{ordered}
 use Rattle.walker.specs.Members.{wordsAt, memberWords, memberIn, askedIn}
-
--- the part of a run from a word on, as the code takes it
-abbrev part : List ℕ → ℕ → List ℕ
-part ws i = take (length ws - i) (drop i ws)
-
-part-is : (ws : List ℕ) (i : ℕ) → part ws i ≡ drop i ws
-part-is ws i = take-all (length ws - i) (drop i ws) (simp length-drop (omega arith))
 
 module _ (ws : List ℕ) (at n : ℕ) where
   pub past-end : length ws < at → take 0 ws ≡ take (n * 3) (drop at ws)

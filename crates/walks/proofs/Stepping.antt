@@ -33,7 +33,8 @@ use Rattle.moves.specs.Moves.{moveOf, seen, onward, desliced, sticks, moved, Cu
 use Rattle.moves.specs.declared.motion.Move.{Move}
 use Rattle.walker.proofs.Storing.{at-most, member-whole}
 use Rattle.moves.proofs.Acting.{acts, moves-on}
-use Rattle.arrivals.specs.Arrived.{arrived, delivered, over}
+use Rattle.outputs.specs.Outcome.{delivered, told, over}
+use Rattle.arrivals.specs.Arrived.{addressed}
 use Rattle.arrivals.proofs.Arriving.{Tells}
 use Rattle.walks.specs.Walked.{unlessStuck, walkedFrom, walkFrom, walkOrdered, walkTo}
 
@@ -110,11 +111,11 @@ module _ (columns known ws store : List ℕ) (n : ℕ) (cur : List ℕ) (b : Boo
 module _ (columns known ws store : List ℕ) (n : ℕ) (address : Bool) (out : List ℕ) (a : Answer) where
   pub tells-stuck : (p : ℕ) → refused 8 p ≡ walkedFrom (members (readFrom columns 0 n) store) 0 (steps ws) (layers known) →
       a ≡ notAccepted 8 p → Tells (walkFrom known ws address (readFrom columns 0 n) store) out a out
-  unfolding walkFrom delivered over flat
+  unfolding walkFrom delivered told over flat
   tells-stuck p e f = rw (← e) (f, refl)
 
   pub tells-arrived : (cur out′ : List ℕ) (b : Bool) (word : ℕ) → Reached columns known ws store n cur b word → length ws ≤ word →
-      Tells (arrived address (seen cur b)) out a out′ → Tells (walkFrom known ws address (readFrom columns 0 n) store) out a out′
+      Tells (paper.given (addressed address (seen cur b))) out a out′ → Tells (walkFrom known ws address (readFrom columns 0 n) store) out a out′
   unfolding walkFrom walkedFrom
   tells-arrived cur out′ b word r h t =
       rw (← r .same, drop-of-length-le ws h, steps-none [] (omega arith)) t
@@ -125,7 +126,7 @@ module _ (out : List ℕ) (a : Answer) (v w : paper.Answer (List Layer)) where
   tells-same out′ t e = rw (← e) t
 
 pub tells-refused : (out : List ℕ) (a : Answer) (w : paper.Answer (List Layer)) (n p : ℕ) → a ≡ notAccepted n p → refused n p ≡ w → Tells w out a out
-unfolding delivered over flat
+unfolding delivered told over flat
 tells-refused out a w n p q e = rw (← e) (q, refl)
 
 -- by what the checks said

@@ -5,19 +5,19 @@ use mathlib.Core.Bool.{Bool, true, false, cond, false≢true}
 use mathlib.Core.List.{List, [], _∷_}
 use Prim.Native.Nat.{ℕ, suc, _+_, _<_}
 use native.Mathlib.Omega.{arith}
-use lib.Dec.{ltb}
 use lib.ListN.{length, take, getD}
 use Rattle.kinds.specs.Kind as kind
 use Rattle.layers.specs.Layers.{Layer, layer, layers}
 use Rattle.layers.specs.Answer.{Answer, given, nothing, refused, next}
+use Rattle.layers.proofs.Given.{given-is}
 use Rattle.checks.specs.Check.{checkOf}
 use Rattle.orders.specs.Order.{inOrder}
 use Rattle.columns.specs.declared.symbol.Symbol.{Symbol}
 use Rattle.steps.specs.Steps.{Step, step, steps, stepsAnswer}
 use Rattle.walker.specs.Walker.{Where, at, stuck, Stored, act, then, walker, arrives}
 use Rattle.walker.specs.Members.{members}
-use Rattle.arrivals.specs.Arrived.{addressed, arrived}
-use Rattle.walks.specs.Walked.{unlessStuck, walkedFrom, andThen, walkFrom, walkOrdered, walkTo}
+use Rattle.arrivals.specs.Arrived.{addressed}
+use Rattle.walks.specs.Walked.{unlessStuck, walkedFrom, andAddress, walkFrom, walkOrdered, walkTo}
 
 -- where an answer says that the walker is
 abbrev whereOf : Answer (List Layer) → Where
@@ -75,21 +75,13 @@ module _ (known ws store : List ℕ) (address : Bool) (table : List Symbol) (u :
   abbrev stored : ℕ → Stored
   stored = members table store
 
-  by-arrival : (t : List Layer) → arrived address t ≡ given u → addressed address t ≡ u
-  unfolding arrived
-  by-arrival t e = by-length (ltb 16 (length (addressed address t))) e
-    where
-      by-length : (f : Bool) → cond f (refused 15 0) (given (addressed address t)) ≡ given u → addressed address t ≡ u
-      by-length true e = absurd (not-refused u 15 0 (sym e))
-      by-length false e = cc
-
   by-walk : walkFrom known ws address table store ≡ given u → arrives stored (steps ws) address (layers known) ≡ at u
   unfolding walkFrom arrives
   by-walk e = rw (as-the-walker stored (steps ws) (layers known) 0) (by-answer (walkedFrom stored 0 (steps ws) (layers known)) e)
     where
-      by-answer : (w : Answer (List Layer)) → andThen w (arrived address) ≡ given u →
+      by-answer : (w : Answer (List Layer)) → andAddress address w ≡ given u →
           then stored (whereOf w) (λ v. at (cond address (layer kind.pointer 0 0 ∷ v) v)) ≡ at u
-      by-answer (given t) e = ap at (by-arrival t e)
+      by-answer (given t) e = ap at (given-is (addressed address t) u e)
       by-answer nothing e = absurd (false≢true (ap gives e))
       by-answer (refused n p) e = absurd (false≢true (ap gives e))
 

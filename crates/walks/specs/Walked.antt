@@ -10,7 +10,7 @@ use Rattle.orders.specs.Order.{inOrder}
 use Rattle.steps.specs.Steps.{Step, steps, stepsAnswer}
 use Rattle.walker.specs.Walker.{Where, at, stuck, Stored, act}
 use Rattle.walker.specs.Members.{members}
-use Rattle.arrivals.specs.Arrived.{arrived}
+use Rattle.arrivals.specs.Arrived.{addressed}
 
 -- "8 with the step as place where it sticks": p is the place of the next step.
 abbrev pub unlessStuck : Where → ℕ → (List Layer → Answer (List Layer)) → Answer (List Layer)
@@ -21,15 +21,15 @@ unfoldable pub walkedFrom : (ℕ → Stored) → ℕ → List Step → List Laye
 walkedFrom stored p [] t = given t
 walkedFrom stored p (s ∷ ss) t = unlessStuck (act stored s t) p (walkedFrom stored (p + 1) ss)
 
--- A refusal stands; else what follows of the value.
-abbrev pub andThen : Answer (List Layer) → (List Layer → Answer (List Layer)) → Answer (List Layer)
-andThen (given t) f = f t
-andThen nothing f = nothing
-andThen (refused n p) f = refused n p
+-- "then the address where address is set"; a refusal stands.
+abbrev pub andAddress : Bool → Answer (List Layer) → Answer (List Layer)
+andAddress address (given t) = given (addressed address t)
+andAddress address nothing = nothing
+andAddress address (refused n p) = refused n p
 
 unfoldable pub walkFrom : List ℕ → List ℕ → Bool → List Symbol → List ℕ → Answer (List Layer)
 walkFrom known ss address table store =
-    andThen (walkedFrom (members table store) 0 (steps ss) (layers known)) (arrived address)
+    andAddress address (walkedFrom (members table store) 0 (steps ss) (layers known))
 
 -- "12 table not in order"
 unfoldable pub walkOrdered : List ℕ → List ℕ → Bool → List Symbol → List ℕ → Answer (List Layer)

@@ -3,9 +3,8 @@ use answers::Answer;
 use columns::Symbol;
 use tables::gather;
 ghost use mathlib.Core.Path.{_≡_};
-ghost use lib.ListN.{length};
 ghost use Rattle.answers.specs.Flat.{flat};
-ghost use Rattle.arrivals.specs.Arrived as arrivals;
+ghost use Rattle.outputs.specs.Outcome.{answerIn, bufferIn};
 ghost use Rattle.walks.specs.Walked as rules;
 
 // Takes the steps from the known type, then the address where it is asked for, and writes the type that is reached.
@@ -17,8 +16,8 @@ pub fn walk<'a>(
     store: &'a [u64],
     out: &mut [u64],
 ) -> Answer
-    ensures { λ r. ⌜ (r ≡ flat (arrivals.delivered (length (now (out .entry))) (rules.walkTo (now (known .entry)) (now (steps .entry)) address (now (table .entry)) (now (store .entry)))))
-        × (now (out .exit) ≡ arrivals.over (rules.walkTo (now (known .entry)) (now (steps .entry)) address (now (table .entry)) (now (store .entry))) (now (out .entry))) ⌝ }
+    ensures { λ r. ⌜ (r ≡ flat (answerIn (now (out .entry)) (rules.walkTo (now (known .entry)) (now (steps .entry)) address (now (table .entry)) (now (store .entry)))))
+        × (now (out .exit) ≡ bufferIn (now (out .entry)) (rules.walkTo (now (known .entry)) (now (steps .entry)) address (now (table .entry)) (now (store .entry)))) ⌝ }
 {
     let mut columns = [0u64; 768];
     gather(table, &mut columns);

@@ -21,7 +21,7 @@ ghost use Rattle.columns.specs.Rows.{readFrom};
 ghost use Rattle.orders.specs.Order.{inOrder};
 ghost use Rattle.answers.specs.Flat.{flat};
 ghost use Rattle.layers.specs.Layers.{Whole};
-ghost use Rattle.arrivals.specs.Arrived as arrivals;
+ghost use Rattle.outputs.specs.Outcome.{answerIn, bufferIn};
 ghost use Rattle.walks.specs.Walked as rules;
 
 // The most steps that the walker takes.
@@ -38,8 +38,8 @@ fn take_steps<'a>(
     out: &mut [u64],
 ) -> Answer
     requires { ⌜ Whole (now known) × ((length (now steps) % 4 ≡ 0) × (inOrder (readFrom (now columns) 0 n) (now store) ≡ true)) ⌝ }
-    ensures answer { λ r. ⌜ r ≡ flat (arrivals.delivered (length (now (out .entry))) (rules.walkFrom (now (known .entry)) (now (steps .entry)) address (readFrom (now (columns .entry)) 0 n) (now (store .entry)))) ⌝ }
-    ensures written { λ _. ⌜ now (out .exit) ≡ arrivals.over (rules.walkFrom (now (known .entry)) (now (steps .entry)) address (readFrom (now (columns .entry)) 0 n) (now (store .entry))) (now (out .entry)) ⌝ }
+    ensures answer { λ r. ⌜ r ≡ flat (answerIn (now (out .entry)) (rules.walkFrom (now (known .entry)) (now (steps .entry)) address (readFrom (now (columns .entry)) 0 n) (now (store .entry)))) ⌝ }
+    ensures written { λ _. ⌜ now (out .exit) ≡ bufferIn (now (out .entry)) (rules.walkFrom (now (known .entry)) (now (steps .entry)) address (readFrom (now (columns .entry)) 0 n) (now (store .entry))) ⌝ }
 {
     let mut cur = known;
     let mut desliced = false;
@@ -71,8 +71,8 @@ fn walk_ordered<'a>(
     out: &mut [u64],
 ) -> Answer
     requires { ⌜ Whole (now known) × (length (now steps) % 4 ≡ 0) ⌝ }
-    ensures answer { λ r. ⌜ r ≡ flat (arrivals.delivered (length (now (out .entry))) (rules.walkOrdered (now (known .entry)) (now (steps .entry)) address (readFrom (now (columns .entry)) 0 n) (now (store .entry)))) ⌝ }
-    ensures written { λ _. ⌜ now (out .exit) ≡ arrivals.over (rules.walkOrdered (now (known .entry)) (now (steps .entry)) address (readFrom (now (columns .entry)) 0 n) (now (store .entry))) (now (out .entry)) ⌝ }
+    ensures answer { λ r. ⌜ r ≡ flat (answerIn (now (out .entry)) (rules.walkOrdered (now (known .entry)) (now (steps .entry)) address (readFrom (now (columns .entry)) 0 n) (now (store .entry)))) ⌝ }
+    ensures written { λ _. ⌜ now (out .exit) ≡ bufferIn (now (out .entry)) (rules.walkOrdered (now (known .entry)) (now (steps .entry)) address (readFrom (now (columns .entry)) 0 n) (now (store .entry))) ⌝ }
 {
     if in_order(columns, n, store) {
         return take_steps(columns, n, known, steps, address, store, out);
@@ -90,8 +90,8 @@ pub fn walk_among<'a>(
     store: &'a [u64],
     out: &mut [u64],
 ) -> Answer
-    ensures { λ r. ⌜ (r ≡ flat (arrivals.delivered (length (now (out .entry))) (rules.walkTo (now (known .entry)) (now (steps .entry)) address (readFrom (now (columns .entry)) 0 n) (now (store .entry)))))
-        × (now (out .exit) ≡ arrivals.over (rules.walkTo (now (known .entry)) (now (steps .entry)) address (readFrom (now (columns .entry)) 0 n) (now (store .entry))) (now (out .entry))) ⌝ }
+    ensures { λ r. ⌜ (r ≡ flat (answerIn (now (out .entry)) (rules.walkTo (now (known .entry)) (now (steps .entry)) address (readFrom (now (columns .entry)) 0 n) (now (store .entry)))))
+        × (now (out .exit) ≡ bufferIn (now (out .entry)) (rules.walkTo (now (known .entry)) (now (steps .entry)) address (readFrom (now (columns .entry)) 0 n) (now (store .entry)))) ⌝ }
 {
     match check_type(known) {
         Checked::Refused { number, place } => refused(number, place),

@@ -22,4 +22,4 @@ arrive-spec =
     let s = w .before .before .before .before in
     let f = s .before in
     let a = f .before .before .before .before in
-    told (a .args .address) (a .args .desliced) _ _ (f .before .front-start .ensures) (f .front-end .ensures) _ _ _ _ _ _ (s .staying .ensures) (w .write-type .ensures) (c .checked .ensures)))
+    told (a .args .address) (a .args .desliced) _ _ (f .before .front-start .ensures) (f .front-end .ensures) (a .args .cur .now) _ (a .args .out .now) _ _ _ (s .staying .ensures) (w .write-type .ensures) (c .checked .ensures)))

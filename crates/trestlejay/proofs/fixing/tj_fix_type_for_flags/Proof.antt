@@ -1,4 +1,5 @@
 use borrow.Author.Needs.{needs}
+use Rattle.trestlejay.proofs.Told.{flat-of}
 use Rattle.trestlejay.proofs.fixing.tj_fix_type_for_flags.Statement.{statement}
 use Rattle.trestlejay.proofs.fixing.tj_fix_type_for_flags.Tie as tie
 
@@ -9,4 +10,6 @@ tj-fix-type-for-flags-spec =
     (λ c κs. search needs)
     (λ c κs. search needs)
     (λ c. search needs)
-    (λ c. ((cc), (cc))))
+    (λ c.
+    let f = c .before .before .before in
+    (flat-of _ _ (f .fix-type-for-flags .ensures .0) _ (c .checked .ensures), f .fix-type-for-flags .ensures .1)))

@@ -1,4 +1,5 @@
 use borrow.Author.Needs.{needs}
+use Rattle.trestlejay.proofs.Told.{flat-of}
 use Rattle.trestlejay.proofs.sheet.tj_read_sheet.Statement.{statement}
 use Rattle.trestlejay.proofs.sheet.tj_read_sheet.Tie as tie
 
@@ -8,4 +9,4 @@ tj-read-sheet-spec =
     (tie.spec
     (λ c κs. search needs)
     (λ c κs. search needs)
-    (λ c. cc))
+    (λ c. search flat-of))

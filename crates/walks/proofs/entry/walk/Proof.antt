@@ -53,7 +53,7 @@ use Rattle.answers.specs.Flat.{flat}
 use Rattle.answers.specs.declared.flat.Answer.{Answer}
 use Rattle.answers.proofs.flat.Answer as B
 use Rattle.answers.proofs.flat.Answer.Laws as B′
-use Rattle.arrivals.specs.Arrived.{delivered, over}
+use Rattle.outputs.specs.Outcome.{answerIn, bufferIn}
 use Rattle.walks.specs.Walked.{walkTo}
 use Rattle.walks.proofs.Stepping.{walk-same}
 use Rattle.walks.proofs.taking.walk_among as core
@@ -142,12 +142,12 @@ module _ {M : Type 1} (𝓤 : URA M) (H : Heap 𝓤) (A : Atoms 𝓤) (W : Given
   reached l = walkTo (x₁ .now) (x₂ .now) t l (x₃ .now)
 
   abbrev Said : List Symbol → Answer → List ℕ → Type 0
-  Said l r zs = (r ≡ flat (delivered (length (x₄ .now)) (reached l))) × (zs ≡ over (reached l) (x₄ .now))
+  Said l r zs = (r ≡ flat (answerIn (x₄ .now) (reached l))) × (zs ≡ bufferIn (x₄ .now) (reached l))
 
   on-table : (r : Answer) (zs : List ℕ) → Said (readFrom (gathered ys) 0 n) r zs → Said ys r zs
   on-table r zs h =
       let same : reached (readFrom (gathered ys) 0 n) ≡ reached ys = walk-same (x₁ .now) (x₂ .now) (x₃ .now) t ys in
-      (h .0 ∙ ap (λ (z : paper.Answer (List Layer)). flat (delivered (length (x₄ .now)) z)) same, h .1 ∙ ap (λ (z : paper.Answer (List Layer)). over z (x₄ .now)) same)
+      (h .0 ∙ ap (λ (z : paper.Answer (List Layer)). flat (answerIn (x₄ .now) z)) same, h .1 ∙ ap (λ (z : paper.Answer (List Layer)). bufferIn (x₄ .now) z) same)
 
   exits : (r : Answer) (zs : List ℕ) → Is B.the-row r (B′.lowered r ∷ []) → Said ys r zs → length zs ≡ length (x₄ .now)
       → ent 𝓤 (⋆ 𝓤 H A (TT ∷ ‵ Own₁ ∷ ‵ Own₂ ∷ ‵ Own ∷ ‵ Own₃ ∷ ‵ (finally u64 (x₄ .name) zs) ∷ [])) (Post (B′.lowered r))

@@ -43,4 +43,7 @@ take-steps-spec =
     (λ c. goes-on _ _ _ _ _ _ _ _ (c .before .before .before .before .before .before .before .before .before .before .before .before .before .before .before .before .before .before .before .pre .1 .1) (c .before .before .before .before .before .before .before .before .before .before .before .before .before .before .loop .inv) (c .before .before .before .before .before .before .before .before .before .before .before .before .before .loop-test .taken) _ _ _ _ _ _ (c .before .before .before .before .before .before .before .before .before .before .asked-member .ensures) (c .before .before .before .before .before .before .before .before .before .kind-of .ensures) (c .before .before .before .before .before .before .before .before .inner .ensures) (c .before .before .before .before .before .before .before .outer .ensures) (c .before .before .before .before .move-of .ensures) (c .before .before .before .is-stuck .ensures) _ _ (c .before .before .if1 .left) (c .before .go .ensures) (c .is-desliced .ensures))
     (λ c κs. search needs)
     (λ c. search needs)
-    (λ c. tells-arrived _ _ _ _ _ _ _ _ _ _ _ _ (c .before .before .before .before .before .loop .inv) (c .before .before .before .before .loop-test .left) (c .before .before .arrive .ensures)))
+    (λ c.
+    let l = c .before .before .before .before .before in
+    let a = l .before .before .before .before .before in
+    tells-arrived _ _ _ _ _ _ (a .args .out .now) _ _ _ _ _ (l .loop .inv) (c .before .before .before .before .loop-test .left) (c .before .before .arrive .ensures)))

@@ -19,4 +19,4 @@ walk-among-spec =
     (λ c. tells-refused _ _ _ _ _ (c .refused .ensures) (search no-type))
     (λ c. tells-refused _ _ _ _ _ (c .refused2 .ensures) (search no-steps))
     (λ c. search needs)
-    (λ c. tells-same _ _ _ _ _ (c .before .before .walk-ordered .ensures) (search checked)))
+    (λ c. tells-same (c .before .before .before .before .before .before .before .before .before .before .before .before .before .before .args .out .now) _ _ _ _ (c .before .before .walk-ordered .ensures) (search checked)))
