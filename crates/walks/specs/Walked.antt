@@ -35,7 +35,7 @@ walkFrom known ss address table store =
 unfoldable pub walkOrdered : List ℕ → List ℕ → Bool → List Symbol → List ℕ → Answer (List Layer)
 walkOrdered known ss address table store = cond (inOrder table store) (walkFrom known ss address table store) (refused 12 0)
 
--- "Refusals in this order: the known type's 1 to 3, 5 for the steps, 12; 8 ...; 15 for the address".
+-- "Refusals in this order: the known type's 1 to 3, 5 for the steps, 12; 8 ...". "15 for the address", then 14: where it is written (`answerIn`).
 unfoldable pub walkTo : List ℕ → List ℕ → Bool → List Symbol → List ℕ → Answer (List Layer)
 walkTo known ss address table store =
     next (checkOf known) (next (stepsAnswer 128 ss) (walkOrdered known ss address table store))
