@@ -7,9 +7,9 @@ use Rattle.buffers.specs.Written.{written}
 use Rattle.columns.specs.declared.symbol.Symbol.{Symbol}
 use Rattle.answers.specs.declared.flat.Answer.{Answer}
 use Rattle.answers.specs.Flat.{accepted, notAccepted}
+use Rattle.rulings.specs.declared.lines.Line.{Line}
+use Rattle.rulings.specs.declared.lines.Line.the-variants as line
 use Rattle.updates.specs.Updates.{lineAt, answerBy, typed, recordBy, wordsBy, updated, wordsAfter}
-use Rattle.updates.specs.declared.lines.Line.{Line}
-use Rattle.updates.specs.declared.lines.Line.the-variants as line
 
 module _ (s : Symbol) (ws : List ℕ) (id : ℕ) (authority : Bool) (place : ℕ) (offered : List ℕ) (P : Symbol → List ℕ → Answer → Type 0)
     (kept : P s ws (accepted 0)) (ill : P s ws (notAccepted 4 0))

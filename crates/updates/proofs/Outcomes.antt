@@ -8,8 +8,9 @@ use lib.Dec.{eqb}
 use Rattle.layers.specs.Layers.{layers}
 use Rattle.columns.specs.declared.symbol.Symbol.{Symbol}
 use Rattle.answers.specs.declared.flat.Answer.{Answer}
-use Rattle.updates.specs.Updates.{lineOf, storedOf, lineAt, recordBy, answerBy, wordsBy, updated, wordsAfter}
-use Rattle.updates.specs.declared.lines.Line.{Line}
+use Rattle.rulings.specs.Rulings.{lineOf}
+use Rattle.rulings.specs.declared.lines.Line.{Line}
+use Rattle.updates.specs.Updates.{storedOf, lineAt, recordBy, answerBy, wordsBy, updated, wordsAfter}
 
 -- l is what the code decided, and k the line that it found this to be
 module _ (s : Symbol) (ws : List ℕ) (authority : Bool) (offered part : List ℕ) (l k : Line) (p : part ≡ storedOf (s .layers) ws)

@@ -1,7 +1,7 @@
 -- What follows from the rule of the update alone.
 -- Assumes nothing.
 use mathlib.Core.Path.{_≡_, refl}
-use mathlib.Core.Bool.{Bool, true, false, cond, not, _&&_, _||_}
+use mathlib.Core.Bool.{Bool, true, _&&_, _||_}
 use mathlib.Core.List.{List}
 use Prim.Native.Nat.{ℕ, _*_, _/_, _%_, _≤_}
 use native.Mathlib.Omega.{arith}
@@ -13,44 +13,18 @@ use Rattle.layers.specs.Layers.{Layer, layers}
 use Rattle.layers.proofs.Decide.{both}
 use Rattle.forms.specs.Formed.{wellFormed}
 use Rattle.equalities.specs.Equalities.{identical}
-use Rattle.relations.specs.Relations.{declared, concretization}
+use Rattle.relations.specs.Relations.{concretization}
 use Rattle.equalities.proofs.Theorems.{identical-reflexive}
-use Rattle.coercions.specs.Coercions.{coerces}
 use Rattle.buffers.specs.Written.{written}
 use Rattle.buffers.proofs.Writing.{fits, length-written}
 use Rattle.columns.specs.declared.symbol.Symbol.{Symbol}
 use Rattle.answers.specs.Flat.{accepted}
-use Rattle.updates.specs.Updates.{lineOf, answerBy, recordBy, wordsBy, storedOf, lineAt, updated, wordsAfter}
-use Rattle.updates.specs.declared.lines.Line.{Line}
-use Rattle.updates.specs.declared.lines.Line.the-variants as line
+use Rattle.rulings.specs.Rulings.{lineOf}
+use Rattle.rulings.proofs.Known.{Knows, known}
+use Rattle.rulings.specs.declared.lines.Line.{Line}
+use Rattle.rulings.specs.declared.lines.Line.the-variants as line
+use Rattle.updates.specs.Updates.{answerBy, recordBy, wordsBy, storedOf, lineAt, updated, wordsAfter}
 use Rattle.updates.specs.declared.record.Updated.{Updated}
-
--- the lines, by the tests alone
-abbrev first : Bool → Bool → Bool → Bool → Bool → Line
-first p f k d b =
-    cond p line.Poisoned
-    (cond (not f) line.IllFormed
-    (cond k line.Kept
-    (cond d line.TypeReplaced
-    (cond b line.BothReplaced
-    line.Conflicting))))
-
--- what is known where each sort of line applies
-abbrev Knows : (p f k : Bool) → Line → Type 0
-Knows p f k line.Poisoned = p ≡ true
-Knows p f k line.IllFormed = f ≡ false
-Knows p f k line.Kept = k ≡ true
-Knows p f k line.TypeReplaced = f ≡ true
-Knows p f k line.BothReplaced = f ≡ true
-Knows p f k line.Conflicting = Unit
-
-knows : (p f k d b : Bool) → Knows p f k (first p f k d b)
-knows true f k d b = refl
-knows false false k d b = refl
-knows false true true d b = refl
-knows false true false true b = refl
-knows false true false false true = refl
-knows false true false false false = tt
 
 -- What was written is what is stored.
 pub stored-written : (offered ws : List ℕ) → length offered ≤ length ws → length offered % 3 ≡ 0 →
@@ -81,11 +55,8 @@ module _ (s : Symbol) (ws : List ℕ) (id : ℕ) (authority : Bool) (place : ℕ
   abbrev by : Line → List Layer
   by l = layers (storedOf (recordBy l s id authority place offered .layers) (wordsBy l offered ws))
 
-  known : Knows (eqb (s .state) 2) formed (holds stored) (lineAt s ws authority offered)
-  unfolding lineOf
-  known =
-      knows (eqb (s .state) 2) formed (holds stored) (s .authority && declared (layers offered) stored)
-      (authority && (concretization (layers offered) stored || coerces (layers offered) stored))
+  known-at : Knows (eqb (s .state) 2) formed (holds stored) (lineAt s ws authority offered)
+  known-at = known (eqb (s .state) 2) (s .authority) authority stored (layers offered)
 
   -- A poisoned record stays as it is, and the update is accepted.
   pub poison-wins : s .state ≡ 2 → (after ≡ record { symbol = s; answer = accepted 0 }) × (wordsAfter s ws authority offered ≡ ws)
@@ -111,7 +82,7 @@ module _ (s : Symbol) (ws : List ℕ) (id : ℕ) (authority : Bool) (place : ℕ
     -- No update makes a stored type that is well formed ill formed.
     pub stays-well-formed : wellFormed stored ≡ true → wellFormed then-stored ≡ true
     unfolding updated wordsAfter
-    stays-well-formed e = by-line (lineAt s ws authority offered) known
+    stays-well-formed e = by-line (lineAt s ws authority offered) known-at
       where
         replaced : formed ≡ true → wellFormed (layers (storedOf (length offered / 3) (written offered ws))) ≡ true
         replaced k = rw (stored-written offered ws h m) (both (wellFormed (layers offered)) (wellFormed stored) k .0)
@@ -128,7 +99,7 @@ module _ (s : Symbol) (ws : List ℕ) (id : ℕ) (authority : Bool) (place : ℕ
     -- concretization of it.
     pub accepted-holds-offered : (s .state ≡ 2 → ⊥) → after .answer .refusal ≡ 0 → holds then-stored ≡ true
     unfolding updated wordsAfter
-    accepted-holds-offered p = by-line (lineAt s ws authority offered) known
+    accepted-holds-offered p = by-line (lineAt s ws authority offered) known-at
       where
         replaced : holds (layers (storedOf (length offered / 3) (written offered ws))) ≡ true
         replaced = rw (stored-written offered ws h m, identical-reflexive (layers offered))

@@ -1,34 +1,18 @@
--- "An update changes the lent symbol itself, by the first line that applies".
-use mathlib.Core.Bool.{Bool, cond, not, _&&_, _||_}
+-- "An update changes the lent symbol itself, by the first line that applies": what that line does.
+use mathlib.Core.Bool.{Bool, cond}
 use mathlib.Core.List.{List, []}
 use Prim.Native.Nat.{ℕ, _*_, _/_}
 use lib.Dec.{eqb, ltb}
 use lib.ListN.{length, take}
-use Rattle.layers.specs.Layers.{Layer, layers}
-use Rattle.forms.specs.Formed.{wellFormed}
-use Rattle.equalities.specs.Equalities.{identical}
-use Rattle.relations.specs.Relations.{declared, concretization}
-use Rattle.coercions.specs.Coercions.{coerces}
+use Rattle.layers.specs.Layers.{layers}
 use Rattle.buffers.specs.Written.{written}
 use Rattle.columns.specs.declared.symbol.Symbol.{Symbol}
 use Rattle.answers.specs.declared.flat.Answer.{Answer}
 use Rattle.answers.specs.Flat.{accepted, notAccepted}
-use Rattle.updates.specs.declared.lines.Line.{Line}
-use Rattle.updates.specs.declared.lines.Line.the-variants as line
+use Rattle.rulings.specs.Rulings.{lineOf}
+use Rattle.rulings.specs.declared.lines.Line.{Line}
+use Rattle.rulings.specs.declared.lines.Line.the-variants as line
 use Rattle.updates.specs.declared.record.Updated.{Updated}
-
--- "poisoned: accepted, nothing changes. Offered type, then stored type, ill formed: 4. Identical, or stored is a
--- concretization of offered: accepted, nothing changes. Symbol authoritative and offered is declared as stored: type
--- replaced, identifier kept. New identifier authoritative and offered is a concretization of or coerces into stored: both
--- replaced. Else 7."
-unfoldable pub lineOf : Bool → Bool → Bool → List Layer → List Layer → Line
-lineOf poisoned authoritative newly stored offered =
-    cond poisoned line.Poisoned
-    (cond (not (wellFormed offered && wellFormed stored)) line.IllFormed
-    (cond (identical stored offered || concretization stored offered) line.Kept
-    (cond (authoritative && declared offered stored) line.TypeReplaced
-    (cond (newly && (concretization offered stored || coerces offered stored)) line.BothReplaced
-    line.Conflicting))))
 
 -- Accepted: 0 where nothing changes, 1 where the type is replaced, 2 where both are. "Every refusal returns its number and
 -- a place (0 unless named)".

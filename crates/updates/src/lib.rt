@@ -1,5 +1,4 @@
-// The update of one record: which line of the rules applies, and what it does to the record and its words.
-mod lines;
+// The update of one record: what the line that applies does to the record and its words.
 mod record;
 
 pub use record::Updated;

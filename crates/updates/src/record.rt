@@ -1,10 +1,10 @@
-use crate::lines::Line;
-use crate::lines::decide;
 use answers::Answer;
 use answers::accepted;
 use answers::refused;
 use buffers::write_words;
 use columns::Symbol;
+use rulings::Line;
+use rulings::decide;
 ghost use mathlib.Core.Path.{_≡_};
 ghost use Rattle.updates.specs.Updates as rules;
 

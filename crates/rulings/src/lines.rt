@@ -5,10 +5,10 @@ use relations::can_be_concretization_of;
 use relations::can_be_declared_as;
 ghost use mathlib.Core.Path.{_≡_};
 ghost use Rattle.layers.specs.Layers.{layers};
-ghost use Rattle.updates.specs.Updates.{lineOf};
+ghost use Rattle.rulings.specs.Rulings.{lineOf};
 
 // The lines of the rule, in its order.
-pub(crate) enum Line {
+pub enum Line {
     Poisoned,
     IllFormed,
     Kept,
@@ -18,7 +18,7 @@ pub(crate) enum Line {
 }
 
 // The first line that applies. authoritative: the symbol is; newly: the new identifier is.
-pub(crate) fn decide(
+pub fn decide(
     poisoned: bool,
     authoritative: bool,
     newly: bool,

@@ -1,7 +1,7 @@
 use borrow.Author.Needs.{needs}
-use Rattle.updates.proofs.Choices.{poisoned, ill-formed, kept, type-replaced, both-replaced, conflicting}
-use Rattle.updates.proofs.lines.decide.Statement.{statement}
-use Rattle.updates.proofs.lines.decide.Tie as tie
+use Rattle.rulings.proofs.Choices.{poisoned, ill-formed, kept, type-replaced, both-replaced, conflicting}
+use Rattle.rulings.proofs.lines.decide.Statement.{statement}
+use Rattle.rulings.proofs.lines.decide.Tie as tie
 
 pub decide-spec : {M : Type 1} → statement M
 decide-spec =

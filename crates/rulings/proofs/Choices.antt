@@ -8,8 +8,8 @@ use Rattle.forms.specs.Formed.{wellFormed}
 use Rattle.equalities.specs.Equalities.{identical}
 use Rattle.relations.specs.Relations.{declared, concretization}
 use Rattle.coercions.specs.Coercions.{coerces}
-use Rattle.updates.specs.Updates.{lineOf}
-use Rattle.updates.specs.declared.lines.Line.the-variants as line
+use Rattle.rulings.specs.Rulings.{lineOf}
+use Rattle.rulings.specs.declared.lines.Line.the-variants as line
 
 -- p: poisoned; a: the symbol is authoritative; n: the new identifier is; s and o: the stored and the offered type
 module _ (p a n : Bool) (s o : List Layer) where

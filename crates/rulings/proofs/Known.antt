@@ -1,0 +1,47 @@
+-- What is known where each sort of line applies.
+-- Assumes nothing.
+use mathlib.Core.Path.{_≡_, refl}
+use mathlib.Core.Bool.{Bool, true, false, cond, not, _&&_, _||_}
+use mathlib.Core.List.{List}
+use Rattle.layers.specs.Layers.{Layer}
+use Rattle.forms.specs.Formed.{wellFormed}
+use Rattle.equalities.specs.Equalities.{identical}
+use Rattle.relations.specs.Relations.{declared, concretization}
+use Rattle.coercions.specs.Coercions.{coerces}
+use Rattle.rulings.specs.Rulings.{lineOf}
+use Rattle.rulings.specs.declared.lines.Line.{Line}
+use Rattle.rulings.specs.declared.lines.Line.the-variants as line
+
+-- the lines, by the tests alone
+abbrev first : Bool → Bool → Bool → Bool → Bool → Line
+first p f k d b =
+    cond p line.Poisoned
+    (cond (not f) line.IllFormed
+    (cond k line.Kept
+    (cond d line.TypeReplaced
+    (cond b line.BothReplaced
+    line.Conflicting))))
+
+-- p: poisoned; f: both types are well formed; k: the stored type holds the offered one
+abbrev pub Knows : (p f k : Bool) → Line → Type 0
+Knows p f k line.Poisoned = p ≡ true
+Knows p f k line.IllFormed = f ≡ false
+Knows p f k line.Kept = k ≡ true
+Knows p f k line.TypeReplaced = f ≡ true
+Knows p f k line.BothReplaced = f ≡ true
+Knows p f k line.Conflicting = Unit
+
+knows : (p f k d b : Bool) → Knows p f k (first p f k d b)
+knows true f k d b = refl
+knows false false k d b = refl
+knows false true true d b = refl
+knows false true false true b = refl
+knows false true false false true = refl
+knows false true false false false = tt
+
+pub known : (p a n : Bool) (s o : List Layer) →
+    Knows p (wellFormed o && wellFormed s) (identical s o || concretization s o) (lineOf p a n s o)
+unfolding lineOf
+known p a n s o =
+    knows p (wellFormed o && wellFormed s) (identical s o || concretization s o) (a && declared o s)
+    (n && (concretization o s || coerces o s))

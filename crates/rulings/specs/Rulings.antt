@@ -1,0 +1,23 @@
+-- "An update changes the lent symbol itself, by the first line that applies": which line that is.
+use mathlib.Core.Bool.{Bool, cond, not, _&&_, _||_}
+use mathlib.Core.List.{List}
+use Rattle.layers.specs.Layers.{Layer}
+use Rattle.forms.specs.Formed.{wellFormed}
+use Rattle.equalities.specs.Equalities.{identical}
+use Rattle.relations.specs.Relations.{declared, concretization}
+use Rattle.coercions.specs.Coercions.{coerces}
+use Rattle.rulings.specs.declared.lines.Line.{Line}
+use Rattle.rulings.specs.declared.lines.Line.the-variants as line
+
+-- "poisoned: accepted, nothing changes. Offered type, then stored type, ill formed: 4. Identical, or stored is a
+-- concretization of offered: accepted, nothing changes. Symbol authoritative and offered is declared as stored: type
+-- replaced, identifier kept. New identifier authoritative and offered is a concretization of or coerces into stored: both
+-- replaced. Else 7."
+unfoldable pub lineOf : Bool → Bool → Bool → List Layer → List Layer → Line
+lineOf poisoned authoritative newly stored offered =
+    cond poisoned line.Poisoned
+    (cond (not (wellFormed offered && wellFormed stored)) line.IllFormed
+    (cond (identical stored offered || concretization stored offered) line.Kept
+    (cond (authoritative && declared offered stored) line.TypeReplaced
+    (cond (newly && (concretization offered stored || coerces offered stored)) line.BothReplaced
+    line.Conflicting))))
