@@ -1,4 +1,3 @@
 -- What the proofs of several functions use.
 pub mod Reading
-pub mod Searching
 pub mod Single

@@ -13,12 +13,6 @@ use Rattle.columns.proofs.rows.row.Kinds as row-kinds
 use Rattle.columns.proofs.rows.row.Reads as row
 use Rattle.columns.proofs.rows.put_row.Kinds as put-row-kinds
 use Rattle.columns.proofs.rows.put_row.Reads as put-row
-use Rattle.columns.proofs.search.first_free.Kinds as first-free-kinds
-use Rattle.columns.proofs.search.first_free.Reads as first-free
-use Rattle.columns.proofs.search.slot_of.Kinds as slot-of-kinds
-use Rattle.columns.proofs.search.slot_of.Reads as slot-of
-use Rattle.columns.proofs.search.slot_with.Kinds as slot-with-kinds
-use Rattle.columns.proofs.search.slot_with.Reads as slot-with
 
 pub row-single : Single 1 row-kinds.ps row-kinds.r row.Post
 row-single κs a x y s t p q = p ∙ sym q
@@ -26,15 +20,6 @@ row-single κs a x y s t p q = p ∙ sym q
 pub put-row-single : (κs : Lfts 1) (a : Dens κs put-row-kinds.ps) (x y : resT put-row-kinds.r κs .Denot) (s t : AtExit (endedOf 1 put-row-kinds.ps put-row-kinds.r) κs) →
     put-row.Post κs a x s → put-row.Post κs a y t → now (s .0) ≡ now (t .0)
 put-row-single κs a x y s t p q = p ∙ sym q
-
-pub first-free-single : Single 1 first-free-kinds.ps first-free-kinds.r first-free.Post
-first-free-single κs a x y s t p q = p ∙ sym q
-
-pub slot-of-single : Single 1 slot-of-kinds.ps slot-of-kinds.r slot-of.Post
-slot-of-single κs a x y s t p q = p ∙ sym q
-
-pub slot-with-single : Single 1 slot-with-kinds.ps slot-with-kinds.r slot-with.Post
-slot-with-single κs a x y s t p q = p ∙ sym q
 
 -- A walked function's contract: what it ensures is a fact, and of two results of which the fact holds Same holds.
 abbrev pub Walked : {M : Type 1} (𝓤 : URA M) {R S : Type 0} → (R → S → SProp 𝓤) → (R → S → R → S → Type 0) → Type 2

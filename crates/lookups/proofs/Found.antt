@@ -10,10 +10,10 @@ use lib.ListN.{length, take, drop, getD}
 use borrow.Author.Tests.{lt-leb, le-leb, leb-false, lt-ltb, le-ltb, eq-eqb, ne-eqb, not-true, not-false}
 use Rattle.columns.specs.declared.symbol.Symbol.{Symbol}
 use Rattle.columns.specs.Rows.{vacant, readFrom, rowUnder}
-use Rattle.columns.specs.Search.{slotFor, slotIn}
+use Rattle.searches.specs.Search.{slotFor, slotIn}
 use Rattle.orders.specs.Order.{inOrder}
 use Rattle.columns.proofs.Reading.{length-read, row-found}
-use Rattle.columns.proofs.Searching.{slot-has}
+use Rattle.searches.proofs.Searching.{slot-has}
 use Rattle.orders.proofs.Ordered.{ordered, few-rows, slot-there}
 use Rattle.answers.specs.declared.flat.Answer.{Answer}
 use Rattle.lookups.specs.Gets.{markFor, got, told, foundAfter, storedType, typeIn, typeOf}

@@ -6,7 +6,7 @@ use lib.Dec.{leb, ltb}
 use lib.ListN.{length, take, drop, getD}
 use Rattle.columns.specs.declared.symbol.Symbol.{Symbol}
 use Rattle.columns.specs.Rows.{vacant, typed}
-use Rattle.columns.specs.Search.{slotFor}
+use Rattle.searches.specs.Search.{slotFor}
 use Rattle.orders.specs.Order.{inOrder}
 use Rattle.answers.specs.declared.flat.Answer.{Answer}
 use Rattle.answers.specs.Flat.{accepted, notAccepted}

@@ -12,9 +12,9 @@ use lib.Seq.{drop-drop}
 use borrow.Author.Tests.{lt-leb, leb-true, eqb-true, le-leb, eq-eqb, not-true}
 use Rattle.layers.proofs.Decide.{both}
 use Rattle.columns.specs.Rows.{vacant, free, readFrom}
-use Rattle.columns.specs.Search.{slotFor, firstFree, slotIn, freeIn}
+use Rattle.searches.specs.Search.{slotFor, firstFree, slotIn, freeIn}
 use Rattle.columns.proofs.Reading.{length-read}
-use Rattle.columns.proofs.Searching.{slot-is, free-is}
+use Rattle.searches.proofs.Searching.{slot-is, free-is}
 use Rattle.orders.specs.Order.{knownStates, allFree, takenFirst, taken, repeats, passes, allPass, inOrder}
 use Rattle.columns.specs.declared.symbol.Symbol.{Symbol}
 

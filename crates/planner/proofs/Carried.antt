@@ -30,7 +30,7 @@ use Rattle.buffers.proofs.Writing.{fits}
 use Rattle.columns.specs.declared.symbol.Symbol.{Symbol}
 use Rattle.columns.specs.Rows as rows
 use Rattle.columns.specs.Rows.{vacant}
-use Rattle.columns.specs.Search.{slotFor}
+use Rattle.searches.specs.Search.{slotFor}
 use Rattle.orders.specs.Order.{passes, inOrder}
 use Rattle.orders.proofs.Ordered.{ordered, pass-at}
 use Rattle.steps.specs.Steps.{steps, stepWords}

@@ -13,7 +13,7 @@ use lib.Seq.{take-append-le, drop-append-le, take-take, drop-drop, take-add, dro
 use borrow.Author.Tests.{leb-true, eq-eqb}
 use Rattle.columns.specs.declared.symbol.Symbol.{Symbol}
 use Rattle.columns.specs.Rows.{vacant, free}
-use Rattle.columns.specs.Search.{firstFree, slotFor}
+use Rattle.searches.specs.Search.{firstFree, slotFor}
 use Rattle.orders.specs.Order.{knownStates, allFree, takenFirst, taken, hasId, repeats, passes, allPass}
 use Rattle.checks.specs.Check.{checkOf, isGood}
 use Rattle.layers.proofs.Decide.{both, neither, eqb-sym}

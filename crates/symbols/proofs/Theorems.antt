@@ -21,9 +21,9 @@ use Rattle.equalities.proofs.Theorems.{identical-reflexive}
 use Rattle.buffers.specs.Written.{written}
 use Rattle.columns.specs.declared.symbol.Symbol.{Symbol}
 use Rattle.columns.specs.Rows.{vacant, free}
-use Rattle.columns.specs.Search.{slotFor, firstFree}
+use Rattle.searches.specs.Search.{slotFor, firstFree}
 use Rattle.orders.specs.Order.{passes, inOrder, takenFirst, taken, hasId, repeats}
-use Rattle.columns.proofs.Searching.{slot-has}
+use Rattle.searches.proofs.Searching.{slot-has}
 use Rattle.orders.proofs.Ordered.{Ordered, ordered, in-order, pass-at}
 use Rattle.symbols.proofs.Setting.{states-set, state-at, first-set, first-new, ids-kept, ids-new, absent-id, pass-set, slot-taken, slot-other, slot-kept, slot-new, free-at, words-before, words-after, turned-round}
 use Rattle.answers.specs.declared.flat.Answer.{Answer}

@@ -13,7 +13,7 @@ use lib.ListN.{length, drop, getD, set, replicate, length-replicate, length-set,
 use lib.Seq.{getD-set-same, getD-set-other, drop-cons}
 use borrow.Author.Tests.{lt-ltb, le-ltb, ltb-true, ltb-false, eqb-true, eqb-false}
 use Rattle.columns.specs.Rows.{vacant, bit, sixSet, putRow, rowAt, readFrom}
-use Rattle.columns.specs.Search.{slotFor, slotIn}
+use Rattle.searches.specs.Search.{slotFor, slotIn}
 use Rattle.columns.specs.declared.symbol.Symbol.{Symbol}
 use Rattle.columns.proofs.Reading.{length-read}
 use Rattle.tables.specs.Gathered.{rowsInto, gatheredInto, gathered, slotOf}

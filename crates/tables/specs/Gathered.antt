@@ -6,7 +6,7 @@ use lib.Dec.{ltb}
 use lib.ListN.{length, getD, replicate}
 use Rattle.columns.specs.declared.symbol.Symbol.{Symbol}
 use Rattle.columns.specs.Rows.{vacant, putRow}
-use Rattle.columns.specs.Search.{slotFor}
+use Rattle.searches.specs.Search.{slotFor}
 
 -- The first k records in their columns, over the words that stand there.
 unfoldable pub rowsInto : List ℕ → List Symbol → ℕ → List ℕ

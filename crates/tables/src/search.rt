@@ -1,6 +1,6 @@
 use crate::rows::gather;
 use columns::Symbol;
-use columns::slot_of;
+use searches::slot_of;
 ghost use mathlib.Core.Path.{_≡_};
 ghost use Rattle.tables.specs.Gathered.{slotOf};
 

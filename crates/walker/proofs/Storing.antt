@@ -16,11 +16,11 @@ use Rattle.layers.proofs.Words.{part, part-is}
 use Rattle.checks.specs.Check.{checkOf, isGood}
 use Rattle.checks.proofs.Accepted.{good-whole}
 use Rattle.columns.specs.Rows.{vacant, rowAt, readFrom, typed}
-use Rattle.columns.specs.Search.{slotIn, slotFor}
+use Rattle.searches.specs.Search.{slotIn, slotFor}
 use Rattle.orders.specs.Order.{passes, allPass, inOrder}
 use Rattle.columns.specs.declared.symbol.Symbol.{Symbol}
 use Rattle.columns.proofs.Reading.{getD-read, length-read}
-use Rattle.columns.proofs.Searching.{slot-is}
+use Rattle.searches.proofs.Searching.{slot-is}
 use Rattle.orders.proofs.Ordered.{ordered}
 use Rattle.walker.specs.Members.{wordsAt, memberWords, memberIn, askedIn}
 

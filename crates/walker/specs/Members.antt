@@ -7,7 +7,7 @@ use lib.ListN.{take, drop, getD}
 use Rattle.layers.specs.Layers.{Layer, layers}
 use Rattle.columns.specs.declared.symbol.Symbol.{Symbol}
 use Rattle.columns.specs.Rows.{vacant, readFrom, typed}
-use Rattle.columns.specs.Search.{slotFor}
+use Rattle.searches.specs.Search.{slotFor}
 use Rattle.steps.specs.StepKind as of-step
 use Rattle.walker.specs.Walker as walker
 use Rattle.walker.specs.Walker.{Stored}

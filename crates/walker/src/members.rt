@@ -1,4 +1,4 @@
-use columns::slot_with;
+use searches::slot_with;
 use steps::StepKind;
 ghost use mathlib.Core.Path.{_≡_};
 ghost use Prim.Native.Nat.{_*_};

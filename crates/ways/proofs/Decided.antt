@@ -13,9 +13,9 @@ use Rattle.layers.specs.declared.answers.Checked.{Checked}
 use Rattle.layers.specs.declared.answers.Checked.the-variants as checked
 use Rattle.columns.specs.declared.symbol.Symbol.{Symbol}
 use Rattle.columns.specs.Rows.{vacant, readFrom}
-use Rattle.columns.specs.Search.{slotFor, firstFree, slotIn, freeIn}
+use Rattle.searches.specs.Search.{slotFor, firstFree, slotIn, freeIn}
 use Rattle.columns.proofs.Reading.{length-read}
-use Rattle.columns.proofs.Searching.{slot-has}
+use Rattle.searches.proofs.Searching.{slot-has}
 use Rattle.orders.specs.Order.{inOrder}
 use Rattle.orders.proofs.Ordered.{Ordered, ordered, slot-there, free-there}
 use Rattle.ways.specs.Ways.{offersType, putsNothing, offeredCheck, placeOf, unless, wayOf}

@@ -7,7 +7,7 @@ use lib.ListN.{length}
 use Rattle.layers.specs.Answer.{Answer, given, nothing, refused}
 use Rattle.checks.specs.Check.{checkOf}
 use Rattle.columns.specs.declared.symbol.Symbol.{Symbol}
-use Rattle.columns.specs.Search.{slotFor, firstFree}
+use Rattle.searches.specs.Search.{slotFor, firstFree}
 use Rattle.orders.specs.Order.{inOrder}
 use Rattle.ways.specs.declared.operations.Operation.{Operation}
 use Rattle.ways.specs.declared.operations.Operation.the-variants as operation

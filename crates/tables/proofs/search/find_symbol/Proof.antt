@@ -37,7 +37,7 @@ use denote.Triple.Table.{entered, cited}
 use denote.Triple.Walked.{says, Stays, stay-none, stay-none-slice, walkOf, goes-none, goes-none-slice, Walks, ends-at, walked, walk-meets}
 use denote.Exit.{yes}
 use denote.Signature.{plain}
-use Rattle.columns.specs.Search.{slotIn}
+use Rattle.searches.specs.Search.{slotIn}
 use Rattle.tables.specs.Gathered.{gathered, slotOf}
 use Rattle.columns.specs.declared.symbol.Symbol.{Symbol}
 use Rattle.tables.proofs.Gathering.{slot-same}
@@ -46,10 +46,10 @@ use Rattle.tables.proofs.rows.gather.Symbol as gather-def
 use Rattle.tables.proofs.rows.gather.Symbol.{name as #gather}
 use Rattle.tables.proofs.rows.gather.Met as gather-thm
 use Rattle.tables.proofs.Lending.{lent, Gather, zeros-typed, gathering, lends-columns, columns-back, Flat}
-use Rattle.columns.proofs.slot_of as slot
-use Rattle.columns.proofs.slot_of.Symbol as slot-def
-use Rattle.columns.proofs.slot_of.Symbol.{name as #slot-of}
-use Rattle.columns.proofs.slot_of.Met as slot-thm
+use Rattle.searches.proofs.slot_of as slot
+use Rattle.searches.proofs.slot_of.Symbol as slot-def
+use Rattle.searches.proofs.slot_of.Symbol.{name as #slot-of}
+use Rattle.searches.proofs.slot_of.Met as slot-thm
 use Rattle.tables.proofs.search.find_symbol.Key.{name as #find-symbol}
 use Rattle.tables.proofs.search.find_symbol as f
 use Rattle.tables.proofs.search.find_symbol.Statement as stated
@@ -184,4 +184,4 @@ find-symbol-spec 𝓤 H 𝓜 𝓖 𝓡 =
     (tables 𝓤 H 𝓜 𝓡 code.env .C) (tables 𝓤 H 𝓜 𝓡 code.env .Λ) #find-symbol code.function (code.unfolded 𝓤 H 𝓜 𝓡)
     (meets 𝓤 H (𝓖 .A) (givenOf 𝓤 H 𝓜 𝓖) (𝓜 .mem) (𝓡 .run) (tablesOf 𝓤 H 𝓜 (tables 𝓤 H 𝓜 𝓡 code.env))
     (cited 𝓤 H (Gather 𝓤 H (𝓖 .A) (𝓜 .mem) (𝓡 .run)) 𝓜 𝓡 code.env #gather gather-def.routine code.calls-tables·rows·gather (gather-thm.met 𝓤 H 𝓜 𝓖 𝓡))
-    (cited 𝓤 H (Slot 𝓤 H (𝓖 .A) (𝓜 .mem) (𝓡 .run)) 𝓜 𝓡 code.env #slot-of slot-def.routine code.calls-columns·slot-of (slot-thm.met 𝓤 H 𝓜 𝓖 𝓡)))
+    (cited 𝓤 H (Slot 𝓤 H (𝓖 .A) (𝓜 .mem) (𝓡 .run)) 𝓜 𝓡 code.env #slot-of slot-def.routine code.calls-searches·slot-of (slot-thm.met 𝓤 H 𝓜 𝓖 𝓡)))

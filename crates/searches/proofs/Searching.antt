@@ -8,10 +8,10 @@ use native.Mathlib.Omega.{arith}
 use lib.ListN.{length, getD}
 use lib.Dec.{eqb}
 use borrow.Author.Tests.{eq-eqb, ne-eqb, lt-ltb, le-ltb, eqb-true}
 use Rattle.columns.specs.Rows.{vacant, free, rowAt, readFrom}
-use Rattle.columns.specs.Search.{firstFree, slotFor, freeIn, slotIn}
 use Rattle.columns.specs.declared.symbol.Symbol.{Symbol}
 use Rattle.columns.proofs.Reading.{from, read-more, read-end, read-all}
+use Rattle.searches.specs.Search.{firstFree, slotFor, freeIn, slotIn}
 
 -- a search for a free record that has passed i of them
 abbrev pub FreePassed : List ℕ → ℕ → ℕ → Type 0

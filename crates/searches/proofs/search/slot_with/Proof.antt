@@ -1,8 +1,8 @@
 use Prim.Native.Nat.{_≤_, _-_}
 use borrow.Author.Needs.{needs}
-use Rattle.columns.proofs.Searching.{SlotPassed, slot-many, slot-start, slot-found, slot-on, slot-over}
-use Rattle.columns.proofs.search.slot_with.Statement.{statement}
-use Rattle.columns.proofs.search.slot_with.Tie as tie
+use Rattle.searches.proofs.Searching.{SlotPassed, slot-many, slot-start, slot-found, slot-on, slot-over}
+use Rattle.searches.proofs.search.slot_with.Statement.{statement}
+use Rattle.searches.proofs.search.slot_with.Tie as tie
 
 abbrev Inv-loop : tie.InvT-loop
 Inv-loop flat n wanted i₀ i = (i ≤ n) × (n ≤ 128) × SlotPassed flat n wanted i

@@ -1,5 +1,5 @@
 ghost use mathlib.Core.Path.{_≡_};
-ghost use Rattle.columns.specs.Search.{freeIn, slotIn};
+ghost use Rattle.searches.specs.Search.{freeIn, slotIn};
 
 // The first of n records that is free, or n.
 pub fn first_free(flat: &[u64; 768], n: usize) -> usize

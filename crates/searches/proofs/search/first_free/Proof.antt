@@ -1,8 +1,8 @@
 use Prim.Native.Nat.{_≤_, _-_}
 use borrow.Author.Needs.{needs}
-use Rattle.columns.proofs.Searching.{FreePassed, free-many, free-start, free-found, free-on, free-over}
-use Rattle.columns.proofs.search.first_free.Statement.{statement}
-use Rattle.columns.proofs.search.first_free.Tie as tie
+use Rattle.searches.proofs.Searching.{FreePassed, free-many, free-start, free-found, free-on, free-over}
+use Rattle.searches.proofs.search.first_free.Statement.{statement}
+use Rattle.searches.proofs.search.first_free.Tie as tie
 
 abbrev Inv-loop : tie.InvT-loop
 Inv-loop flat n i₀ i = (i ≤ n) × (n ≤ 128) × FreePassed flat n i
