@@ -3,10 +3,6 @@ mod flat;
 
 pub use flat::Answer;
 pub use flat::accepted;
-pub use flat::bound;
 pub use flat::checked;
-pub use flat::count;
 pub use flat::refused;
-pub use flat::size;
-pub use flat::start;
 pub use flat::verdict;

@@ -17,8 +17,8 @@ use borrow.Fn.Kinds.{Out, Dens, resT, endedOf}
 use Rattle.layers.proofs.Single.{Single}
 use Rattle.trestlejay.proofs.properties.tj_check.Kinds as of-type
 use Rattle.trestlejay.proofs.pairs.tj_equals.Kinds as of-pair
-use Rattle.trestlejay.proofs.measures.tj_stored_size.Kinds as with-size
-use Rattle.trestlejay.proofs.measures.tj_min_i128.Kinds as with-halves
+use Rattle.trestlejay.proofs.numbers.tj_stored_size.Kinds as with-size
+use Rattle.trestlejay.proofs.numbers.tj_min_i128.Kinds as with-halves
 use Rattle.trestlejay.proofs.fixing.tj_fix_type_for_flags.Kinds as with-buffer
 use Rattle.trestlejay.proofs.properties.tj_check.Reads as tj-check
 use Rattle.trestlejay.proofs.properties.tj_is_wellformed.Reads as tj-is-wellformed
@@ -38,11 +38,11 @@ use Rattle.trestlejay.proofs.starts.tj_get_element_type.Reads as tj-get
 use Rattle.trestlejay.proofs.starts.tj_get_pointee_type.Reads as tj-get-pointee-type
 use Rattle.trestlejay.proofs.starts.tj_get_viewee_type.Reads as tj-get-viewee-type
 use Rattle.trestlejay.proofs.starts.tj_fully_dereferenced.Reads as tj-fully-dereferenced
-use Rattle.trestlejay.proofs.measures.tj_pointer_depth.Reads as tj-pointer-depth
-use Rattle.trestlejay.proofs.measures.tj_known_size_in_bytes_as_word_member.Reads as tj-known-size-in-bytes-as-word-member
-use Rattle.trestlejay.proofs.measures.tj_stored_size.Reads as tj-stored-size
-use Rattle.trestlejay.proofs.measures.tj_min_i128.Reads as tj-min-i128
-use Rattle.trestlejay.proofs.measures.tj_max_u128.Reads as tj-max-u128
+use Rattle.trestlejay.proofs.numbers.tj_pointer_depth.Reads as tj-pointer-depth
+use Rattle.trestlejay.proofs.numbers.tj_known_size_in_bytes_as_word_member.Reads as tj-known-size-in-bytes-as-word-member
+use Rattle.trestlejay.proofs.numbers.tj_stored_size.Reads as tj-stored-size
+use Rattle.trestlejay.proofs.numbers.tj_min_i128.Reads as tj-min-i128
+use Rattle.trestlejay.proofs.numbers.tj_max_u128.Reads as tj-max-u128
 use Rattle.trestlejay.proofs.pairs.tj_identical.Reads as tj-identical
 use Rattle.trestlejay.proofs.pairs.tj_equals.Reads as tj-equals
 use Rattle.trestlejay.proofs.pairs.tj_is_like.Reads as tj-is-like

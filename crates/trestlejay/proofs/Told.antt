@@ -15,7 +15,8 @@ use Rattle.questions.specs.declared.relate.Relation.{Relation}
 use Rattle.questions.specs.declared.coerce.Coercion.{Coercion}
 use Rattle.bounds.specs.declared.values.Halves.{Halves}
 use Rattle.answers.specs.declared.flat.Answer.{Answer}
-use Rattle.answers.specs.Flat.{accepted, flat, flatFound, foundAfter, flatHalves, lowAfter, highAfter}
+use Rattle.answers.specs.Flat.{accepted, flat}
+use Rattle.measures.specs.Measured.{flatFound, foundAfter, flatHalves, lowAfter, highAfter}
 
 module _ (a b : paper.Answer ℕ) (e : a ≡ b) where
   pub flat-of : (r : Answer) → r ≡ flat a → r ≡ flat b

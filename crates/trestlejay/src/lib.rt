@@ -1,6 +1,6 @@
 // The C face: each public question as an exported function, as include/trestlejay.h declares it.
 mod fixing;
-mod measures;
+mod numbers;
 mod pairs;
 mod plans;
 mod properties;
@@ -12,11 +12,11 @@ mod uses;
 pub use answers::Answer;
 pub use columns::Symbol;
 pub use fixing::tj_fix_type_for_flags;
-pub use measures::tj_known_size_in_bytes_as_word_member;
-pub use measures::tj_max_u128;
-pub use measures::tj_min_i128;
-pub use measures::tj_pointer_depth;
-pub use measures::tj_stored_size;
+pub use numbers::tj_known_size_in_bytes_as_word_member;
+pub use numbers::tj_max_u128;
+pub use numbers::tj_min_i128;
+pub use numbers::tj_pointer_depth;
+pub use numbers::tj_stored_size;
 pub use pairs::tj_can_autoderef_into;
 pub use pairs::tj_can_be_concretization_of;
 pub use pairs::tj_can_be_declared_as;

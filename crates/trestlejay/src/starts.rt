@@ -1,5 +1,5 @@
 use answers::Answer;
-use answers::start;
+use measures::start;
 use parts::Part;
 ghost use mathlib.Core.Path.{_≡_};
 ghost use Rattle.parts.specs.Starts.{startAnswer};
