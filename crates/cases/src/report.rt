@@ -2,11 +2,11 @@ use bounds::Bound;
 use layers::Checked;
 use layers::Verdict;
 use outsides::Property;
-use parts::Part;
-use parts::Start;
 use roles::Role;
 use sizes::Count;
 use sizes::Size;
+use starts::Part;
+use starts::Start;
 
 const OUT: i32 = 1;
 
@@ -98,10 +98,10 @@ fn uses(ws: &[u64]) {
 
 fn starts(ws: &[u64]) {
     text(b" |");
-    start(parts::start_of(Part::Element, ws));
-    start(parts::start_of(Part::Pointee, ws));
-    start(parts::start_of(Part::Viewee, ws));
-    start(parts::start_of(Part::Dereferenced, ws));
+    start(starts::start_of(Part::Element, ws));
+    start(starts::start_of(Part::Pointee, ws));
+    start(starts::start_of(Part::Viewee, ws));
+    start(starts::start_of(Part::Dereferenced, ws));
 }
 
 fn measures(ws: &[u64]) {

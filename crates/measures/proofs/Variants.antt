@@ -2,8 +2,8 @@
 -- Assumes nothing.
 use mathlib.Core.Path.{_≡_}
 use Prim.Native.Nat.{ℕ}
-use Rattle.parts.specs.Starts.{ofStart}
-use Rattle.parts.specs.declared.starts.Start.{Start}
+use Rattle.starts.specs.Starts.{ofStart}
+use Rattle.starts.specs.declared.starting.Start.{Start}
 use Rattle.sizes.specs.Answer.{ofSize, ofCount}
 use Rattle.sizes.specs.declared.answers.Size.{Size}
 use Rattle.sizes.specs.declared.answers.Count.{Count}

@@ -1,4 +1,3 @@
 -- What the proofs of several functions use.
 pub mod Dereferenced
-pub mod Apart
 pub mod Single

@@ -2,16 +2,15 @@
 -- Assumes nothing.
 use mathlib.Core.Path.{sym, _∙_}
 use Rattle.layers.proofs.Single.{Single, SinglePart}
-use Rattle.parts.proofs.Apart.{start-apart}
+use Rattle.parts.proofs.inside.has_element.Kinds as has-element-kinds
+use Rattle.parts.proofs.inside.has_element.Reads as has-element
 use Rattle.parts.proofs.inside.get_element_type.Reads as element
 use Rattle.parts.proofs.inside.get_pointee_type.Reads as pointee
 use Rattle.parts.proofs.inside.get_viewee_type.Reads as viewee
 use Rattle.parts.proofs.inside.fully_dereferenced.Reads as dereferenced
-use Rattle.parts.proofs.starts.start_of.Kinds as start-of-kinds
-use Rattle.parts.proofs.starts.start_of.Reads as start-of
 
-pub start-of-single : Single 1 start-of-kinds.ps start-of-kinds.r start-of.Post
-start-of-single κs a x y s t p q = start-apart x y (p ∙ sym q)
+pub has-element-single : Single 0 has-element-kinds.ps has-element-kinds.r has-element.Post
+has-element-single κs a x y s t p q = p ∙ sym q
 
 -- of a part that is handed back, the words coincide
 pub get-element-type-single : SinglePart element.Post

@@ -34,10 +34,10 @@ use Rattle.trestlejay.proofs.uses.tj_can_be_constant.Reads as tj-can-be
 use Rattle.trestlejay.proofs.uses.tj_can_be_variable.Reads as tj-can-be-variable
 use Rattle.trestlejay.proofs.uses.tj_can_be_parameter.Reads as tj-can-be-parameter
 use Rattle.trestlejay.proofs.uses.tj_can_be_returned.Reads as tj-can-be-returned
-use Rattle.trestlejay.proofs.starts.tj_get_element_type.Reads as tj-get-element-type
-use Rattle.trestlejay.proofs.starts.tj_get_pointee_type.Reads as tj-get-pointee-type
-use Rattle.trestlejay.proofs.starts.tj_get_viewee_type.Reads as tj-get-viewee-type
-use Rattle.trestlejay.proofs.starts.tj_fully_dereferenced.Reads as tj-fully-dereferenced
+use Rattle.trestlejay.proofs.insides.tj_get_element_type.Reads as tj-get-element-type
+use Rattle.trestlejay.proofs.insides.tj_get_pointee_type.Reads as tj-get-pointee-type
+use Rattle.trestlejay.proofs.insides.tj_get_viewee_type.Reads as tj-get-viewee-type
+use Rattle.trestlejay.proofs.insides.tj_fully_dereferenced.Reads as tj-fully-dereferenced
 use Rattle.trestlejay.proofs.numbers.tj_pointer_depth.Reads as tj-pointer-depth
 use Rattle.trestlejay.proofs.numbers.tj_known_size_in_bytes_as_word_member.Reads as tj-known-size-in-bytes-as-word-member
 use Rattle.trestlejay.proofs.numbers.tj_stored_size.Reads as tj-stored-size

@@ -1,17 +1,21 @@
 // The C face: each public question as an exported function, as include/trestlejay.h declares it.
 mod fixing;
+mod insides;
 mod numbers;
 mod pairs;
 mod plans;
 mod properties;
 mod records;
 mod sheet;
-mod starts;
 mod uses;
 
 pub use answers::Answer;
 pub use columns::Symbol;
 pub use fixing::tj_fix_type_for_flags;
+pub use insides::tj_fully_dereferenced;
+pub use insides::tj_get_element_type;
+pub use insides::tj_get_pointee_type;
+pub use insides::tj_get_viewee_type;
 pub use numbers::tj_known_size_in_bytes_as_word_member;
 pub use numbers::tj_max_u128;
 pub use numbers::tj_min_i128;
@@ -44,10 +48,6 @@ pub use records::tj_put_poison;
 pub use records::tj_put_type;
 pub use records::tj_update_symbol;
 pub use sheet::tj_read_sheet;
-pub use starts::tj_fully_dereferenced;
-pub use starts::tj_get_element_type;
-pub use starts::tj_get_pointee_type;
-pub use starts::tj_get_viewee_type;
 pub use uses::tj_can_be_constant;
 pub use uses::tj_can_be_parameter;
 pub use uses::tj_can_be_returned;

@@ -5,11 +5,11 @@ use Prim.Native.Nat.{ℕ, _*_}
 use Rattle.layers.specs.Layers.{Layer, layers, outer}
 use Rattle.layers.specs.Answer.{Answer, given, nothing, refused, next}
 use Rattle.checks.specs.Check.{checkOf}
 use Rattle.parts.specs.Parts.{hasElement, hasPointee, hasViewee, references}
-use Rattle.parts.specs.declared.starts.Part.{Part}
-use Rattle.parts.specs.declared.starts.Part.the-variants as part
-use Rattle.parts.specs.declared.starts.Start.{Start}
-use Rattle.parts.specs.declared.starts.Start.the-variants as start
+use Rattle.starts.specs.declared.starting.Part.{Part}
+use Rattle.starts.specs.declared.starting.Part.the-variants as part
+use Rattle.starts.specs.declared.starting.Start.{Start}
+use Rattle.starts.specs.declared.starting.Start.the-variants as start
 
 -- The word at which a part starts, or that there is no such part.
 abbrev pub ofStart : Start → Answer ℕ

@@ -1,34 +1,34 @@
 use answers::Answer;
 use measures::start;
-use parts::Part;
+use starts::Part;
 ghost use mathlib.Core.Path.{_≡_};
-ghost use Rattle.parts.specs.Starts.{startAnswer};
+ghost use Rattle.starts.specs.Starts.{startAnswer};
 ghost use Rattle.answers.specs.Flat.{flat};
 
 #[no_mangle]
 pub extern "C" fn tj_get_element_type(t: &[u64]) -> Answer
     ensures { λ r. ⌜ r ≡ flat (startAnswer Part.Element (now (t .entry))) ⌝ }
 {
-    start(parts::start_of(Part::Element, t))
+    start(starts::start_of(Part::Element, t))
 }
 
 #[no_mangle]
 pub extern "C" fn tj_get_pointee_type(t: &[u64]) -> Answer
     ensures { λ r. ⌜ r ≡ flat (startAnswer Part.Pointee (now (t .entry))) ⌝ }
 {
-    start(parts::start_of(Part::Pointee, t))
+    start(starts::start_of(Part::Pointee, t))
 }
 
 #[no_mangle]
 pub extern "C" fn tj_get_viewee_type(t: &[u64]) -> Answer
     ensures { λ r. ⌜ r ≡ flat (startAnswer Part.Viewee (now (t .entry))) ⌝ }
 {
-    start(parts::start_of(Part::Viewee, t))
+    start(starts::start_of(Part::Viewee, t))
 }
 
 #[no_mangle]
 pub extern "C" fn tj_fully_dereferenced(t: &[u64]) -> Answer
     ensures { λ r. ⌜ r ≡ flat (startAnswer Part.Dereferenced (now (t .entry))) ⌝ }
 {
-    start(parts::start_of(Part::Dereferenced, t))
+    start(starts::start_of(Part::Dereferenced, t))
 }

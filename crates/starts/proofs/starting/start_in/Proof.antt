@@ -1,7 +1,7 @@
 use borrow.Author.Needs.{needs}
-use Rattle.parts.proofs.Dereferenced.{shorter-left, at-element, at-pointee, at-viewee, at-dereferenced}
-use Rattle.parts.proofs.starts.start_in.Statement.{statement}
-use Rattle.parts.proofs.starts.start_in.Tie as tie
+use Rattle.starts.proofs.Places.{shorter-left, at-element, at-pointee, at-viewee, at-dereferenced}
+use Rattle.starts.proofs.starting.start_in.Statement.{statement}
+use Rattle.starts.proofs.starting.start_in.Tie as tie
 
 pub start-in-spec : {M : Type 1} → statement M
 start-in-spec =

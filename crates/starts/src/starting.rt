@@ -1,12 +1,12 @@
-use crate::inside::fully_dereferenced;
-use crate::inside::has_element;
 use checks::check_type;
 use kinds::Kind;
 use layers::Checked;
 use layers::outer;
+use parts::fully_dereferenced;
+use parts::has_element;
 ghost use mathlib.Core.Path.{_≡_};
 ghost use Rattle.layers.specs.Layers.{layers};
-ghost use Rattle.parts.specs.Starts.{ofStart, innerStart, startIn, startAnswer};
+ghost use Rattle.starts.specs.Starts.{ofStart, innerStart, startIn, startAnswer};
 
 // The parts of a type that can be asked for.
 pub enum Part {

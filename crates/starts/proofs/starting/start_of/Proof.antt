@@ -1,8 +1,8 @@
 use borrow.Author.Needs.{needs}
-use Rattle.parts.specs.Starts.{startAnswer}
+use Rattle.starts.specs.Starts.{startAnswer}
 use Rattle.checks.proofs.Refusals.{refuses, accepts}
-use Rattle.parts.proofs.starts.start_of.Statement.{statement}
-use Rattle.parts.proofs.starts.start_of.Tie as tie
+use Rattle.starts.proofs.starting.start_of.Statement.{statement}
+use Rattle.starts.proofs.starting.start_of.Tie as tie
 
 pub start-of-spec : {M : Type 1} → statement M
 unfolding startAnswer

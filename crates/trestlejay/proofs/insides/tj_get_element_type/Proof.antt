@@ -1,7 +1,7 @@
 use borrow.Author.Needs.{needs}
 use Rattle.trestlejay.proofs.Told.{flat-of}
-use Rattle.trestlejay.proofs.starts.tj_get_element_type.Statement.{statement}
-use Rattle.trestlejay.proofs.starts.tj_get_element_type.Tie as tie
+use Rattle.trestlejay.proofs.insides.tj_get_element_type.Statement.{statement}
+use Rattle.trestlejay.proofs.insides.tj_get_element_type.Tie as tie
 
 pub tj-get-element-type-spec : {M : Type 1} → statement M
 tj-get-element-type-spec =

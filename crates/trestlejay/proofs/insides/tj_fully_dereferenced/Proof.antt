@@ -1,7 +1,7 @@
 use borrow.Author.Needs.{needs}
 use Rattle.trestlejay.proofs.Told.{flat-of}
-use Rattle.trestlejay.proofs.starts.tj_fully_dereferenced.Statement.{statement}
-use Rattle.trestlejay.proofs.starts.tj_fully_dereferenced.Tie as tie
+use Rattle.trestlejay.proofs.insides.tj_fully_dereferenced.Statement.{statement}
+use Rattle.trestlejay.proofs.insides.tj_fully_dereferenced.Tie as tie
 
 pub tj-fully-dereferenced-spec : {M : Type 1} → statement M
 tj-fully-dereferenced-spec =

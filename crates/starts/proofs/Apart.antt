@@ -1,9 +1,9 @@
 -- The paper's answers tell the cases of the enum apart.
 -- Assumes nothing.
 use mathlib.Core.Path.{_≡_}
-use Rattle.parts.specs.Starts.{ofStart}
-use Rattle.parts.specs.declared.starts.Start.{Start}
-use Rattle.parts.specs.declared.starts.Start.the-variants as start
+use Rattle.starts.specs.Starts.{ofStart}
+use Rattle.starts.specs.declared.starting.Start.{Start}
+use Rattle.starts.specs.declared.starting.Start.the-variants as start
 
 pub start-apart : (x y : Start) → ofStart x ≡ ofStart y → x ≡ y
 start-apart (start.At i) (start.At j) e = cc
