@@ -43,6 +43,7 @@ mod small;
 #[cfg(face)]
 mod small_plans;
 mod smoke;
+mod smoke_plans;
 mod symbols;
 mod types;
 mod words;

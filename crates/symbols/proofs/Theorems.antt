@@ -1,37 +1,29 @@
 -- What follows from the rules of a table alone.
 -- Assumes nothing.
 use mathlib.Core.Path.{_≡_, refl, sym, ap, subst, _∙_}
-use mathlib.Core.Bool.{Bool, true, false, cond, not, _&&_, _||_, and-false, true≢false, false≢true}
+use mathlib.Core.Bool.{Bool, true, false, cond, not, _&&_, and-false, true≢false, false≢true}
 use mathlib.Core.List.{List, _++_}
 use mathlib.Core.Logic.{_≢_}
-use Prim.Native.Nat.{ℕ, _+_, _-_, _*_, _/_, _%_, _≤_, _<_}
+use Prim.Native.Nat.{ℕ, _+_, _-_, _*_, _/_, _≤_, _<_}
 use native.Mathlib.Omega.{arith}
 use lib.Dec.{eqb, leb, ltb}
 use lib.ListN.{length, take, drop, getD, set, length-set, length-append, length-drop, take-append-drop}
 use lib.Seq.{set-getD, length-take-le, getD-set-same, getD-set-other, drop-at}
-use borrow.Author.Tests.{ltb-true, ltb-false, eq-eqb, ne-eqb, lt-ltb, le-ltb, lt-leb, leb-true, leb-false, eqb-false}
-use Rattle.layers.specs.Answer as paper
-use Rattle.layers.specs.Answer.{given, nothing, refused}
+use borrow.Author.Tests.{ltb-true, ltb-false, eq-eqb, le-ltb, lt-leb, leb-false}
 use Rattle.layers.specs.Layers.{layers}
-use Rattle.checks.specs.Check as check
-use Rattle.checks.specs.Check.{Place, at, nowhere, badCount, badLayer, misplaced, checkOf}
-use Rattle.equalities.specs.Equalities.{identical}
-use Rattle.relations.specs.Relations.{concretization}
-use Rattle.equalities.proofs.Theorems.{identical-reflexive}
+use Rattle.checks.specs.Check.{at, checkOf}
 use Rattle.buffers.specs.Written.{written}
 use Rattle.columns.specs.declared.symbol.Symbol.{Symbol}
 use Rattle.columns.specs.Rows.{vacant, free}
-use Rattle.searches.specs.Search.{slotFor, firstFree}
-use Rattle.orders.specs.Order.{passes, inOrder, takenFirst, taken, hasId, repeats}
+use Rattle.searches.specs.Search.{slotFor}
+use Rattle.orders.specs.Order.{inOrder, takenFirst, taken, hasId, repeats}
 use Rattle.searches.proofs.Searching.{slot-has}
 use Rattle.orders.proofs.Ordered.{Ordered, ordered, in-order, pass-at}
 use Rattle.symbols.proofs.Setting.{states-set, state-at, first-set, first-new, ids-kept, ids-new, absent-id, pass-set, slot-taken, slot-other, slot-kept, slot-new, free-at, words-before, words-after, turned-round}
 use Rattle.answers.specs.declared.flat.Answer.{Answer}
 use Rattle.answers.specs.Flat.{accepted, notAccepted}
-use Rattle.updates.specs.Updates.{storedOf}
 use Rattle.updates.proofs.Cases.{by-lines}
-use Rattle.updates.proofs.Theorems.{poison-wins as update-poison, accepted-holds-offered}
-use Rattle.ways.specs.Ways.{putsNothing, offeredCheck, placeOf, unless, wayOf}
+use Rattle.ways.specs.Ways.{offeredCheck, wayOf}
 use Rattle.slots.specs.Deeds.{typed, Deed, deed, overwrites}
 use Rattle.changes.specs.Changes.{inserts, Outcome, atSlot, outcomeBy, outcome}
 use Rattle.lookups.specs.Gets.{markFor, got, storedType, typeIn, typeOf}
@@ -41,59 +33,9 @@ use Rattle.ways.specs.declared.operations.Operation.{Operation}
 use Rattle.ways.specs.declared.operations.Operation.the-variants as operation
 use Rattle.ways.specs.declared.slot.Way.{Way}
 use Rattle.ways.specs.declared.slot.Way.the-variants as way
-use Rattle.ways.proofs.Decided.{Within, found-is, found-in, found-has, new-is, new-in, new-absent, found-checked, new-checked, kept-by, notRefused}
-use Rattle.symbols.proofs.Deeds.{Fine, inserts-fine, overwrites-fine, few-words, whole-layers, words-there}
-
--- a refusal's number is not 0
-abbrev checkNumbered : paper.Answer ℕ → Bool
-checkNumbered (given n) = true
-checkNumbered nothing = true
-checkNumbered (refused n p) = not (eqb n 0)
-
-abbrev numbered : Way → Bool
-numbered (way.Refused n p) = not (eqb n 0)
-numbered way.Kept = true
-numbered (way.Found k) = true
-numbered (way.Free k) = true
-
-check-numbered : (ws : List ℕ) → checkNumbered (checkOf ws) ≡ true
-unfolding checkOf
-check-numbered ws = by-parts (badCount (length ws)) (badLayer 0 (layers ws)) (misplaced 0 (layers ws)) (length ws / 3)
-  where
-    by-parts : (b : Bool) (p q : Place) (n : ℕ) → checkNumbered (cond b (refused 1 0) (check.unless p 2 (check.unless q 3 (given n)))) ≡ true
-    by-parts true p q n = refl
-    by-parts false (at i) q n = refl
-    by-parts false nowhere (at i) n = refl
-    by-parts false nowhere nowhere n = refl
-
-offered-numbered : (op : Operation) (offered : List ℕ) → checkNumbered (offeredCheck op offered) ≡ true
-offered-numbered operation.PutNothing offered = refl
-offered-numbered operation.PutPoison offered = refl
-offered-numbered operation.PutType offered = check-numbered offered
-offered-numbered operation.ForwardPoison offered = refl
-offered-numbered operation.ForwardType offered = check-numbered offered
-
-unless-numbered : (a : paper.Answer ℕ) (w : Way) → checkNumbered a ≡ true → numbered w ≡ true → numbered (unless a w) ≡ true
-unless-numbered (given n) w e f = f
-unless-numbered nothing w e f = f
-unless-numbered (refused n p) w e f = e
-
-place-numbered : (op : Operation) (id : ℕ) (table : List Symbol) (store : List ℕ) → numbered (placeOf op id table store) ≡ true
-unfolding placeOf
-place-numbered op id table store = by-parts (inOrder table store) (putsNothing op) (ltb (slotFor id table) (length table)) (ltb (firstFree table) (length table))
-  where
-    by-parts : (o s t u : Bool) →
-        numbered (cond o (cond s way.Kept (cond t (way.Found (slotFor id table)) (cond u (way.Free (firstFree table)) (way.Refused 13 0)))) (way.Refused 12 0)) ≡ true
-    by-parts false s t u = refl
-    by-parts true true t u = refl
-    by-parts true false true u = refl
-    by-parts true false false true = refl
-    by-parts true false false false = refl
-
-way-numbered : (op : Operation) (id : ℕ) (offered : List ℕ) (table : List Symbol) (store : List ℕ) → numbered (wayOf op id offered table store) ≡ true
-unfolding wayOf
-way-numbered op id offered table store =
-    unless-numbered (offeredCheck op offered) (placeOf op id table store) (offered-numbered op offered) (place-numbered op id table store)
+use Rattle.ways.proofs.Decided.{Within, found-is, found-in, found-has, new-is, new-in, new-absent, found-checked, new-checked, notRefused}
+use Rattle.symbols.proofs.Deeds.{Fine, inserts-fine, overwrites-fine, few-words, words-there}
+use Rattle.symbols.proofs.Numbered.{numbered, way-numbered}
 
 -- refused, or accepted with 0
 abbrev pub Quiet : Answer → Type 0
@@ -176,13 +118,13 @@ module _ (op : Operation) (id : ℕ) (authority : Bool) (place mark : ℕ) (offe
       was = subst (λ (j : ℕ). free (getD table j vacant) ≡ false) (sym (found-is op id offered table store k e))
           (slot-taken id table (subst (λ (j : ℕ). j < length table) (found-is op id offered table store k e) (there .below)))
 
-      found-fine : Fine id (tail k) (overwrites op old (tail k) id authority place mark offered)
+      pub found-fine : Fine id (tail k) (overwrites op old (tail k) id authority place mark offered)
       found-fine =
           overwrites-fine id authority place mark offered (tail k) (long k there) old (found-has op id offered table store k e)
           (state-at table k (there .order .states) (there .below)) was (pass-at table store k (there .order .pass) (there .below))
           op (found-checked op id offered table store k e)
 
-      found-order : Ordered (by (way.Found k) .table) (by (way.Found k) .store)
+      pub found-order : Ordered (by (way.Found k) .table) (by (way.Found k) .store)
       found-order =
           let d = overwrites op old (tail k) id authority place mark offered in
           set-order k d there found-fine
@@ -349,7 +291,7 @@ module _ (op : Operation) (id : ℕ) (authority : Bool) (place mark : ℕ) (offe
   new-finds operation.ForwardType k t w e = λ q o r v. wrote k id authority place (accepted 3) w e q o
   new-finds operation.ForwardPoison k t w e = absurd t
 
-  way-finds : (w : Way) → wayOf op id offered table store ≡ w → Offers op → by w .answer .refusal ≡ 0 → (by w .answer .value ≡ 0 → ⊥) → Holds (by w)
+  pub way-finds : (w : Way) → wayOf op id offered table store ≡ w → Offers op → by w .answer .refusal ≡ 0 → (by w .answer .value ≡ 0 → ⊥) → Holds (by w)
   way-finds (way.Refused n p) e t r v =
       absurd (false≢true (sym (ap (λ (m : ℕ). not (eqb m 0)) r) ∙ (ap numbered (sym e) ∙ way-numbered op id offered table store)))
   way-finds way.Kept e t r v = absurd (v refl)
@@ -372,165 +314,10 @@ module _ (op : Operation) (id : ℕ) (authority : Bool) (place mark : ℕ) (offe
   unfolding outcome
   get-finds-what-was-put t r v = way-finds (wayOf op id offered table store) refl t r v
 
-  held : (o : Outcome) → Holds o → typeOf id (o .table) (o .store) ≡ offered
+  pub held : (o : Outcome) → Holds o → typeOf id (o .table) (o .store) ≡ offered
   unfolding typeOf
   held o h = ap (λ (g : Got). typeIn g (o .table) (o .store)) (h .1 .0 true) ∙ h .1 .1
 
   pub get-type-of-what-was-put : Offers op → after .answer .refusal ≡ 0 → (after .answer .value ≡ 0 → ⊥) →
       typeOf id (after .table) (after .store) ≡ offered
   get-type-of-what-was-put t r v = held after (get-finds-what-was-put t r v)
-
--- "Put with nothing: accepted, unchanged.", of a table in order.
-pub put-of-nothing : (id : ℕ) (authority : Bool) (place mark : ℕ) (offered : List ℕ) (table : List Symbol) (store : List ℕ) →
-    outcome operation.PutNothing id authority place mark offered table store
-    ≡ record { answer = cond (inOrder table store) (accepted 0) (notAccepted 12 0); table = table; store = store }
-unfolding outcome wayOf placeOf
-put-of-nothing id authority place mark offered table store = by-order (inOrder table store)
-  where
-    by-order : (o : Bool) → outcomeBy (cond o way.Kept (way.Refused 12 0)) operation.PutNothing id authority place mark offered table store
-        ≡ record { answer = cond o (accepted 0) (notAccepted 12 0); table = table; store = store }
-    by-order true = refl
-    by-order false = refl
-
--- Poison wins until a forward declaration: a put of a type under a poisoned name is accepted and changes nothing.
-module _ (id : ℕ) (authority : Bool) (place mark : ℕ) (offered : List ℕ) (table : List Symbol) (store : List ℕ) where
-  abbrev isPoisoned : Got → Bool
-  isPoisoned got′.Absent = false
-  isPoisoned (got′.Typed k) = false
-  isPoisoned (got′.Poisoned m) = true
-  isPoisoned (got′.Refused n p) = false
-
-  under-poison : (asking : Bool) (m : ℕ) → got id asking table store ≡ got′.Poisoned m →
-      (inOrder table store ≡ true) × (leb (length table) (slotFor id table) ≡ false) × (eqb (getD table (slotFor id table) vacant .state) 1 ≡ false)
-  unfolding got
-  under-poison asking m e =
-      by-parts (inOrder table store) (leb (length table) (slotFor id table)) (eqb (getD table (slotFor id table) vacant .state) 1) (ap isPoisoned e)
-    where
-      by-parts : (o t u : Bool) →
-          isPoisoned (cond o (cond t got′.Absent (cond u (got′.Typed (slotFor id table)) (got′.Poisoned (markFor asking (getD table (slotFor id table) vacant .mark))))) (got′.Refused 12 0)) ≡ true →
-          (o ≡ true) × (t ≡ false) × (u ≡ false)
-      by-parts false t u f = absurd (false≢true f)
-      by-parts true true u f = absurd (false≢true f)
-      by-parts true false true f = absurd (false≢true f)
-      by-parts true false false f = (refl, refl, refl)
-
-  pub poison-wins : (asking : Bool) (m : ℕ) → got id asking table store ≡ got′.Poisoned m → notRefused (checkOf offered) ≡ true →
-      outcome operation.PutType id authority place mark offered table store ≡ record { answer = accepted 0; table = table; store = store }
-  unfolding outcome wayOf placeOf
-  poison-wins asking m e good =
-      let k = slotFor id table in
-      let s = getD table k vacant in
-      let parts = under-poison asking m e in
-      let order = ordered table store (parts .0) in
-      let below : k < length table = leb-false (length table) k (parts .1) in
-      let taken-there : s .state ≢ 0 = eqb-false (s .state) 0 (slot-taken id table below) in
-      let not-typed : s .state ≢ 1 = eqb-false (s .state) 1 (parts .2) in
-      let known : s .state ≤ 2 = leb-true (s .state) 2 (state-at table k (order .states) below) in
-      let two : s .state ≡ 2 = omega (arith, known, taken-there, not-typed) in
-      let wins = update-poison s (drop (k * 48) store) id authority place offered two in
-      by-check (checkOf offered) good
-      (rw (parts .0, lt-ltb k (length table) below, wins .0, wins .1, set-getD, take-append-drop))
-    where
-      by-check : (a : paper.Answer ℕ) → notRefused a ≡ true →
-          outcomeBy (placeOf operation.PutType id table store) operation.PutType id authority place mark offered table store ≡ record { answer = accepted 0; table = table; store = store } →
-          outcomeBy (unless a (placeOf operation.PutType id table store)) operation.PutType id authority place mark offered table store ≡ record { answer = accepted 0; table = table; store = store }
-      by-check (given n) g h = h
-      by-check nothing g h = h
-      by-check (refused n p) g h = absurd (false≢true g)
-
-first-test : (a b : Bool) → cond a b false ≡ true → a ≡ true
-first-test true b e = refl
-first-test false b e = absurd (false≢true e)
-
--- After an accepted put of a type under a name that is not poisoned, the type that get answers is identical to the offered
--- one or a concretization of it.
-module _ (id : ℕ) (authority : Bool) (place mark : ℕ) (offered : List ℕ) (table : List Symbol) (store : List ℕ) where
-  abbrev put : Outcome
-  put = outcome operation.PutType id authority place mark offered table store
-
-  abbrev part : ℕ → List ℕ
-  part k = drop (k * 48) store
-
-  abbrev Suits : List ℕ → Type 0
-  Suits ws = (identical (layers ws) (layers offered) || concretization (layers ws) (layers offered)) ≡ true
-
-  -- a typed record at the slot of its id is what get finds, and its words are those that the update speaks of
-  typed-there : (k : ℕ) (d : Deed) → Within table store k → Fine id (part k) d → d .symbol .state ≡ 1 →
-      slotFor id (set table k (d .symbol)) ≡ k → inOrder (set table k (d .symbol)) (take (k * 48) store ++ d .words) ≡ true →
-      typeOf id (set table k (d .symbol)) (take (k * 48) store ++ d .words) ≡ storedOf (d .symbol .layers) (d .words)
-  unfolding typeOf got storedType storedOf passes
-  typed-there k d w f one s order =
-      let table′ = set table k (d .symbol) in
-      let store′ = take (k * 48) store ++ d .words in
-      let n : length table′ ≡ length table = length-set table k (d .symbol) in
-      let full : length store′ ≡ length table′ * 48 = ordered table′ store′ order .full in
-      let is : getD table′ k vacant ≡ d .symbol = getD-set-same table k (d .symbol) vacant (w .below) in
-      let room : k * 48 ≤ length store = omega (arith, w .below, w .order .full) in
-      let below : k < length table′ = omega (arith, n, w .below) in
-      let inside : k < length store′ / 48 = omega (arith, n, full, w .below) in
-      let few : d .symbol .layers ≤ 16 = leb-true (d .symbol .layers) 16 (first-test (leb (d .symbol .layers) 16) _ (rw one at (f .pass))) in
-      let sized : length (d .words) ≡ length store - k * 48 = f .sized ∙ length-drop (k * 48) store in
-      let long : 48 ≤ length (d .words) = omega (arith, sized, w .below, w .order .full) in
-      let held : d .symbol .layers ≤ length (d .words) / 3 = omega (arith, few, long) in
-      let words : drop (k * 48) store′ ≡ d .words = drop-at (take (k * 48) store) (d .words) (k * 48) (length-take-le (k * 48) store room) in
-      let found : got id true table′ store′ ≡ got′.Typed k = rw (order, s, lt-leb (length table′) k below, is, eq-eqb (d .symbol .state) 1 one) in
-      let there : storedType store′ k (getD table′ k vacant .layers) ≡ storedOf (d .symbol .layers) (d .words) =
-      rw (is, le-ltb 16 (d .symbol .layers) few, lt-leb (length store′ / 48) k inside, words, le-ltb (length (d .words) / 3) (d .symbol .layers) held) in
-      ap (λ (g : Got). typeIn g table′ store′) found ∙ there
-
-  module _ (k : ℕ) (e : wayOf operation.PutType id offered table store ≡ way.Found k) (clean : (m : ℕ) → got id true table store ≡ got′.Poisoned m → ⊥) where
-    abbrev s : Symbol
-    s = getD table k vacant
-
-    in-table : Within table store k
-    in-table = found-in operation.PutType id offered table store k e
-
-    not-poisoned : s .state ≡ 2 → ⊥
-    unfolding got
-    not-poisoned two =
-        let at = found-is operation.PutType id offered table store k e in
-        clean (s .mark)
-        (rw (in-order table store (in-table .order), ← at, lt-leb (length table) k (in-table .below), ne-eqb (s .state) 1 (λ q. omega (arith, q, two))))
-
-    is-typed : s .state ≡ 1
-    is-typed =
-        let at = found-is operation.PutType id offered table store k e in
-        let below = subst (λ (j : ℕ). j < length table) at (in-table .below) in
-        let taken-there : s .state ≢ 0 = eqb-false (s .state) 0 (subst (λ (j : ℕ). free (getD table j vacant) ≡ false) (sym at) (slot-taken id table below)) in
-        let known : s .state ≤ 2 = leb-true (s .state) 2 (state-at table k (in-table .order .states) (in-table .below)) in
-        omega (arith, known, taken-there, not-poisoned)
-
-    abbrev d : Deed
-    d = overwrites operation.PutType s (part k) id authority place mark offered
-
-    still-typed : d .symbol .state ≡ 1
-    still-typed = by-lines s (part k) id authority place offered (λ r zs a. r .state ≡ 1) is-typed is-typed refl refl is-typed
-
-    found-suits : d .answer .refusal ≡ 0 → Suits (typeOf id (set table k (d .symbol)) (take (k * 48) store ++ d .words))
-    found-suits r =
-        let at = found-is operation.PutType id offered table store k e in
-        let below = subst (λ (j : ℕ). j < length table) at (in-table .below) in
-        let fine = found-fine operation.PutType id authority place mark offered table store k e in
-        let good = found-checked operation.PutType id offered table store k e in
-        let slot = ap (λ (j : ℕ). slotFor id (set table j (d .symbol))) at ∙ slot-kept id table (d .symbol) below (fine .named) (fine .taken) ∙ sym at in
-        let order = in-order (set table k (d .symbol)) (take (k * 48) store ++ d .words) (found-order operation.PutType id authority place mark offered table store k e) in
-        let room : length offered ≤ length (part k) = simp length-drop (omega (arith, few-words offered good, in-table .below, in-table .order .full)) in
-        let whole : length offered % 3 ≡ 0 = omega (arith, whole-layers offered good) in
-        subst Suits (sym (typed-there k d in-table fine still-typed slot order))
-        (accepted-holds-offered s (part k) id authority place offered room whole not-poisoned r)
-
-  pub accepted-put-holds : ((m : ℕ) → got id true table store ≡ got′.Poisoned m → ⊥) → put .answer .refusal ≡ 0 →
-      Suits (typeOf id (put .table) (put .store))
-  unfolding outcome
-  accepted-put-holds clean r = by-way (wayOf operation.PutType id offered table store) refl r
-    where
-      by-way : (w : Way) → wayOf operation.PutType id offered table store ≡ w →
-          let o = outcomeBy w operation.PutType id authority place mark offered table store in o .answer .refusal ≡ 0 → Suits (typeOf id (o .table) (o .store))
-      by-way (way.Refused n p) e r =
-          absurd (false≢true (sym (ap (λ (m : ℕ). not (eqb m 0)) r) ∙ (ap numbered (sym e) ∙ way-numbered operation.PutType id offered table store)))
-      by-way way.Kept e r = absurd (false≢true (kept-by operation.PutType id offered table store e))
-      by-way (way.Found k) e r = found-suits k e clean r
-      by-way (way.Free k) e r =
-          let o = outcomeBy (way.Free k) operation.PutType id authority place mark offered table store in
-          let h = way-finds operation.PutType id authority place mark offered table store (way.Free k) e tt r (λ q. omega (arith, q)) in
-          subst Suits (sym (held operation.PutType id authority place mark offered table store o h)) (rw (identical-reflexive (layers offered)))
