@@ -1,4 +1,5 @@
 use buffers::write_words;
+use builders::Layer;
 use forms::is_wellformed;
 use kinds::Kind;
 use layers::Checked;
@@ -43,7 +44,7 @@ fn external_layer(k: u64, name: u64, number: u64) -> [u64; 3]
     ensures { λ r. ⌜ r ≡ cond (eqb k kind.arraylike) (words kind.endlessArray 0 0) (words k name number) ⌝ }
 {
     if k == Kind::ARRAYLIKE {
-        Kind::endless_array()
+        Layer::endless_array()
     } else {
         [k, name, number]
     }

@@ -1,0 +1,4 @@
+// A layer of each kind.
+mod layer;
+
+pub use layer::Layer;
