@@ -1,9 +1,9 @@
 use crate::values::Bound;
 use crate::values::Halves;
-use checks::check_type;
 use kinds::Kind;
 use layers::Checked;
 use layers::outer;
+use refusals::check_type;
 ghost use mathlib.Core.Path.{_≡_};
 ghost use Rattle.layers.specs.Layers.{layers};
 ghost use Rattle.bounds.specs.Answer.{ofBound};

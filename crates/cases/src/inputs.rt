@@ -1,7 +1,7 @@
 use crate::report::report;
-use checks::check_type;
 use kinds::Kind;
 use layers::Checked;
+use refusals::check_type;
 ghost use mathlib.Core.Path.{_≡_};
 ghost use lib.ListN.{length};
 

@@ -135,7 +135,7 @@ pub(crate) fn report(ws: &[u64]) {
         text(b")");
     }
     text(b":");
-    checked(checks::check_type(ws));
+    checked(refusals::check_type(ws));
     properties(ws);
     uses(ws);
     starts(ws);

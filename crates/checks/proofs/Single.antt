@@ -1,20 +1,14 @@
 -- Each public contract allows one result: any two that it allows of the same arguments coincide.
 -- Assumes nothing.
 use mathlib.Core.Path.{sym, _∙_}
-use Rattle.layers.proofs.Apart.{checked-apart}
 use Rattle.layers.proofs.Single.{Single}
-use Rattle.checks.proofs.check.check_type.Kinds as check-type-kinds
-use Rattle.checks.proofs.check.check_type.Reads as check-type
-use Rattle.checks.proofs.check.check_types.Kinds as check-types-kinds
-use Rattle.checks.proofs.check.check_types.Reads as check-types
 use Rattle.checks.proofs.check.is_type.Kinds as is-type-kinds
 use Rattle.checks.proofs.check.is_type.Reads as is-type
+use Rattle.checks.proofs.good.good_layer.Kinds as good-layer-kinds
+use Rattle.checks.proofs.good.good_layer.Reads as good-layer
+
+pub good-layer-single : Single 0 good-layer-kinds.ps good-layer-kinds.r good-layer.Post
+good-layer-single κs a x y s t p q = p ∙ sym q
 
 pub is-type-single : Single 1 is-type-kinds.ps is-type-kinds.r is-type.Post
 is-type-single κs a x y s t p q = p ∙ sym q
-
-pub check-type-single : Single 1 check-type-kinds.ps check-type-kinds.r check-type.Post
-check-type-single κs a x y s t p q = checked-apart x y (p ∙ sym q)
-
-pub check-types-single : Single 2 check-types-kinds.ps check-types-kinds.r check-types.Post
-check-types-single κs a x y s t p q = checked-apart x y (p ∙ sym q)

@@ -33,7 +33,7 @@ pub(crate) fn good_leaf(k: u64, n: u64, m: u64) -> bool
 }
 
 // Whether the three words are a layer.
-pub(crate) fn good_layer(k: u64, n: u64, m: u64) -> bool
+pub fn good_layer(k: u64, n: u64, m: u64) -> bool
     ensures { λ r. ⌜ r ≡ goodLayer (layer k n m) ⌝ }
 {
     good_holder(k, n, m) | good_leaf(k, n, m)

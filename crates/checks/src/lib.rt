@@ -1,7 +1,6 @@
-// The checks 1 to 3 of a type's words.
+// The checks 1 to 3 of a type's words: what passes them.
 mod check;
 mod good;
 
-pub use check::check_type;
-pub use check::check_types;
 pub use check::is_type;
+pub use good::good_layer;

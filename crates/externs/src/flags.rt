@@ -1,7 +1,7 @@
 use crate::external::fix_external;
-use checks::check_type;
 use layers::Checked;
 use natives::fix_plain;
+use refusals::check_type;
 ghost use mathlib.Core.Path.{_≡_};
 ghost use Rattle.layers.specs.Layers.{layers, Whole};
 ghost use Rattle.layers.specs.Answer.{ofChecked};

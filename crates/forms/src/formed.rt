@@ -1,10 +1,10 @@
-use checks::check_type;
 use kinds::Kind;
 use layers::Checked;
 use layers::Verdict;
 use layers::is_array;
 use layers::is_reference;
 use layers::is_slice;
+use refusals::check_type;
 ghost use mathlib.Core.Path.{_≡_};
 ghost use mathlib.Core.Bool.{not, _||_};
 ghost use lib.Dec.{eqb};

@@ -1,9 +1,9 @@
 use answers::Answer;
 use answers::checked;
 use answers::refused;
-use checks::check_type;
 use checks::is_type;
 use columns::Symbol;
+use refusals::check_type;
 use updates::Updated;
 use updates::update;
 ghost use mathlib.Core.Path.{_≡_};

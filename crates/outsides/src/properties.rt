@@ -1,8 +1,8 @@
-use checks::check_type;
 use kinds::Kind;
 use layers::Checked;
 use layers::Verdict;
 use layers::outer;
+use refusals::check_type;
 ghost use mathlib.Core.Path.{_≡_};
 ghost use lib.Dec.{eqb};
 ghost use Rattle.kinds.specs.Kind as kind;

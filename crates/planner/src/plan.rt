@@ -1,7 +1,7 @@
-use checks::check_type;
 use forms::is_wellformed;
 use layers::Checked;
 use orders::in_order;
+use refusals::check_type;
 use reports::Report;
 use reports::refuse;
 use rounds::walk_asked;

@@ -1,10 +1,10 @@
-use checks::check_types;
 use coercions::can_autoderef_into;
 use coercions::can_coerce_address_into;
 use coercions::can_coerce_into;
 use coercions::can_subautoderef_into;
 use layers::Checked;
 use layers::Verdict;
+use refusals::check_types;
 ghost use mathlib.Core.Path.{_≡_};
 ghost use Rattle.layers.specs.Layers.{layers};
 ghost use Rattle.layers.specs.Answer.{ofVerdict};

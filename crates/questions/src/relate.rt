@@ -1,8 +1,8 @@
-use checks::check_types;
 use equalities::equals;
 use equalities::identical;
 use layers::Checked;
 use layers::Verdict;
+use refusals::check_types;
 use relations::can_be_concretization_of;
 use relations::can_be_declared_as;
 use relations::is_like;

@@ -1,9 +1,9 @@
-use checks::check_type;
 use forms::is_wellformed;
 use kinds::Kind;
 use layers::Checked;
 use layers::Verdict;
 use layers::outer;
+use refusals::check_type;
 use sizes::Size;
 use sizes::known_size;
 ghost use mathlib.Core.Path.{_≡_};

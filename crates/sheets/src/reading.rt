@@ -1,7 +1,7 @@
-use checks::check_type;
 use contents::type_at;
 use contents::types_in;
 use layers::Checked;
+use refusals::check_type;
 use words::words_of;
 ghost use mathlib.Core.Path.{_≡_};
 ghost use Rattle.layers.specs.Answer.{ofChecked};

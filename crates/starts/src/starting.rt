@@ -1,9 +1,9 @@
-use checks::check_type;
 use kinds::Kind;
 use layers::Checked;
 use layers::outer;
 use parts::fully_dereferenced;
 use parts::has_element;
+use refusals::check_type;
 ghost use mathlib.Core.Path.{_≡_};
 ghost use Rattle.layers.specs.Layers.{layers};
 ghost use Rattle.starts.specs.Starts.{ofStart, innerStart, startIn, startAnswer};

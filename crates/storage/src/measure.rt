@@ -1,6 +1,6 @@
-use checks::check_type;
 use kinds::Kind;
 use layers::Checked;
+use refusals::check_type;
 use sizes::Size;
 use sizes::known_size;
 ghost use mathlib.Core.Path.{_≡_};

@@ -12,7 +12,7 @@ ghost use Rattle.answers.specs.Flat.{flat};
 pub extern "C" fn tj_check(t: &[u64]) -> Answer
     ensures { λ r. ⌜ r ≡ flat (checkOf (now (t .entry))) ⌝ }
 {
-    checked(checks::check_type(t))
+    checked(refusals::check_type(t))
 }
 
 #[no_mangle]

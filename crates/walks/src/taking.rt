@@ -1,7 +1,6 @@
 use answers::Answer;
 use answers::refused;
 use arrivals::arrive;
-use checks::check_type;
 use layers::Checked;
 use layers::inner;
 use layers::outer;
@@ -11,6 +10,7 @@ use moves::is_stuck;
 use moves::kind_of;
 use moves::move_of;
 use orders::in_order;
+use refusals::check_type;
 use steps::check_steps;
 use walker::asked_member;
 ghost use mathlib.Core.Path.{_≡_};

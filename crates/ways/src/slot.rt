@@ -1,9 +1,9 @@
 use crate::operations::Operation;
 use crate::operations::offers_type;
 use crate::operations::puts_nothing;
-use checks::check_type;
 use layers::Checked;
 use orders::in_order;
+use refusals::check_type;
 use searches::first_free;
 use searches::slot_of;
 ghost use mathlib.Core.Path.{_≡_};

@@ -1,7 +1,7 @@
 use borrow.Author.Needs.{needs}
 use Rattle.checks.proofs.Refusals.{left-passes, left-fails}
-use Rattle.checks.proofs.check.check_types.Statement.{statement}
-use Rattle.checks.proofs.check.check_types.Tie as tie
+use Rattle.refusals.proofs.first.check_types.Statement.{statement}
+use Rattle.refusals.proofs.first.check_types.Tie as tie
 
 pub check-types-spec : {M : Type 1} → statement M
 check-types-spec =

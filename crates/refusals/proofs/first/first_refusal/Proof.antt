@@ -2,9 +2,9 @@ use Prim.Native.Nat.{_-_}
 use lib.ListN.{length}
 use borrow.Author.Needs.{needs}
 use borrow.Author.Tests.{not-false}
 use Rattle.checks.proofs.Checks.{Passed, start, turn, miscounted, bad, fine, leaf}
-use Rattle.checks.proofs.check.first_refusal.Statement.{statement}
-use Rattle.checks.proofs.check.first_refusal.Tie as tie
+use Rattle.refusals.proofs.first.first_refusal.Statement.{statement}
+use Rattle.refusals.proofs.first.first_refusal.Tie as tie
 
 abbrev Inv-loop : tie.InvT-loop
 Inv-loop ws n at₀ place₀ misplaced₀ at place misplaced = Passed ws at place misplaced

@@ -1,7 +1,7 @@
 use borrow.Author.Needs.{needs}
 use Rattle.checks.proofs.Passing.{counted-by}
-use Rattle.checks.proofs.check.check_type.Statement.{statement}
-use Rattle.checks.proofs.check.check_type.Tie as tie
+use Rattle.refusals.proofs.first.check_type.Statement.{statement}
+use Rattle.refusals.proofs.first.check_type.Tie as tie
 
 pub check-type-spec : {M : Type 1} → statement M
 check-type-spec =
