@@ -13,8 +13,8 @@ use Rattle.columns.specs.Rows.{vacant}
 use Rattle.answers.specs.declared.flat.Answer.{Answer}
 use Rattle.updates.specs.Updates.{updated}
 use Rattle.updates.proofs.Theorems.{unchanged}
-use Rattle.ways.specs.declared.operations.Operation.{Operation}
-use Rattle.ways.specs.declared.operations.Operation.the-variants as operation
+use Rattle.operations.specs.declared.operation.Operation.{Operation}
+use Rattle.operations.specs.declared.operation.Operation.the-variants as operation
 use Rattle.ways.specs.declared.slot.Way.{Way}
 use Rattle.ways.specs.declared.slot.Way.the-variants as way
 use Rattle.ways.specs.Ways.{wayOf}

@@ -19,8 +19,8 @@ use changes::choose;
 use columns::Symbol;
 use lone::update_lone;
 use lookups::get_among;
+use operations::Operation;
 use updates::Updated;
-use ways::Operation;
 
 // The questions' numbers: the update, the operations on a table, get last.
 pub(crate) const UPDATE: u64 = 33;

@@ -8,8 +8,8 @@ use Rattle.buffers.specs.Written.{written}
 use Rattle.columns.specs.declared.symbol.Symbol.{Symbol}
 use Rattle.answers.specs.declared.flat.Answer.{Answer}
 use Rattle.updates.specs.declared.record.Updated.{Updated}
-use Rattle.ways.specs.declared.operations.Operation.{Operation}
-use Rattle.ways.specs.Ways.{offersType}
+use Rattle.operations.specs.declared.operation.Operation.{Operation}
+use Rattle.operations.specs.Operations.{offersType}
 use Rattle.slots.specs.Deeds.{typed, poisoned, filled, filledWords, overwrites, seen}
 
 -- a record that is filled

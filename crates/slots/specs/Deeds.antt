@@ -9,9 +9,9 @@ use Rattle.answers.specs.Flat.{accepted}
 use Rattle.updates.specs.declared.record.Updated.{Updated}
 use Rattle.updates.specs.Updates as updates
 use Rattle.updates.specs.Updates.{updated, wordsAfter}
-use Rattle.ways.specs.declared.operations.Operation.{Operation}
-use Rattle.ways.specs.declared.operations.Operation.the-variants as operation
-use Rattle.ways.specs.Ways.{offersType}
+use Rattle.operations.specs.declared.operation.Operation.{Operation}
+use Rattle.operations.specs.declared.operation.Operation.the-variants as operation
+use Rattle.operations.specs.Operations.{offersType}
 
 -- "Poisoning sets the layer count to 0; writing a type sets the mark to 0."
 abbrev pub poisoned : ℕ → Bool → ℕ → ℕ → Symbol

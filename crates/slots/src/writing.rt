@@ -1,10 +1,10 @@
 use answers::accepted;
 use buffers::write_words;
 use columns::Symbol;
+use operations::Operation;
+use operations::offers_type;
 use updates::Updated;
 use updates::update;
-use ways::Operation;
-use ways::offers_type;
 ghost use mathlib.Core.Path.{_≡_};
 ghost use Rattle.slots.specs.Deeds as rules;
 

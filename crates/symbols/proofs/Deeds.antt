@@ -24,11 +24,11 @@ use Rattle.orders.specs.Order.{passes}
 use Rattle.answers.specs.declared.flat.Answer.{Answer}
 use Rattle.answers.specs.Flat.{accepted}
 use Rattle.updates.proofs.Cases.{by-lines}
+use Rattle.operations.specs.declared.operation.Operation.{Operation}
+use Rattle.operations.specs.declared.operation.Operation.the-variants as operation
 use Rattle.ways.specs.Ways.{offeredCheck}
 use Rattle.changes.specs.Changes.{inserts}
 use Rattle.slots.specs.Deeds.{poisoned, typed, Deed, deed, overwrites}
-use Rattle.ways.specs.declared.operations.Operation.{Operation}
-use Rattle.ways.specs.declared.operations.Operation.the-variants as operation
 use Rattle.ways.proofs.Decided.{notRefused}
 
 -- words that are not refused

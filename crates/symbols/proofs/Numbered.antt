@@ -14,9 +14,10 @@ use Rattle.checks.specs.Check.{Place, at, nowhere, badCount, badLayer, misplace
 use Rattle.columns.specs.declared.symbol.Symbol.{Symbol}
 use Rattle.searches.specs.Search.{slotFor, firstFree}
 use Rattle.orders.specs.Order.{inOrder}
-use Rattle.ways.specs.Ways.{putsNothing, offeredCheck, placeOf, unless, wayOf}
-use Rattle.ways.specs.declared.operations.Operation.{Operation}
-use Rattle.ways.specs.declared.operations.Operation.the-variants as operation
+use Rattle.operations.specs.declared.operation.Operation.{Operation}
+use Rattle.operations.specs.declared.operation.Operation.the-variants as operation
+use Rattle.operations.specs.Operations.{putsNothing}
+use Rattle.ways.specs.Ways.{offeredCheck, placeOf, unless, wayOf}
 use Rattle.ways.specs.declared.slot.Way.{Way}
 use Rattle.ways.specs.declared.slot.Way.the-variants as way
 

@@ -28,13 +28,13 @@ use Rattle.answers.specs.Flat.{accepted, notAccepted}
 use Rattle.updates.specs.Updates.{storedOf}
 use Rattle.updates.proofs.Cases.{by-lines}
 use Rattle.updates.proofs.Theorems.{poison-wins as update-poison, accepted-holds-offered}
+use Rattle.operations.specs.declared.operation.Operation.the-variants as operation
 use Rattle.ways.specs.Ways.{placeOf, unless, wayOf}
 use Rattle.slots.specs.Deeds.{Deed, overwrites}
 use Rattle.changes.specs.Changes.{Outcome, outcomeBy, outcome}
 use Rattle.lookups.specs.Gets.{markFor, got, storedType, typeIn, typeOf}
 use Rattle.lookups.specs.declared.get.Got.{Got}
 use Rattle.lookups.specs.declared.get.Got.the-variants as got′
-use Rattle.ways.specs.declared.operations.Operation.the-variants as operation
 use Rattle.ways.specs.declared.slot.Way.{Way}
 use Rattle.ways.specs.declared.slot.Way.the-variants as way
 use Rattle.ways.proofs.Decided.{Within, found-is, found-in, found-checked, kept-by, notRefused}

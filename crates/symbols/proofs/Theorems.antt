@@ -23,14 +23,14 @@ use Rattle.symbols.proofs.Setting.{states-set, state-at, first-set, fir
 use Rattle.answers.specs.declared.flat.Answer.{Answer}
 use Rattle.answers.specs.Flat.{accepted, notAccepted}
 use Rattle.updates.proofs.Cases.{by-lines}
+use Rattle.operations.specs.declared.operation.Operation.{Operation}
+use Rattle.operations.specs.declared.operation.Operation.the-variants as operation
 use Rattle.ways.specs.Ways.{offeredCheck, wayOf}
 use Rattle.slots.specs.Deeds.{typed, Deed, deed, overwrites}
 use Rattle.changes.specs.Changes.{inserts, Outcome, atSlot, outcomeBy, outcome}
 use Rattle.lookups.specs.Gets.{markFor, got, storedType, typeIn, typeOf}
 use Rattle.lookups.specs.declared.get.Got.{Got}
 use Rattle.lookups.specs.declared.get.Got.the-variants as got′
-use Rattle.ways.specs.declared.operations.Operation.{Operation}
-use Rattle.ways.specs.declared.operations.Operation.the-variants as operation
 use Rattle.ways.specs.declared.slot.Way.{Way}
 use Rattle.ways.specs.declared.slot.Way.the-variants as way
 use Rattle.ways.proofs.Decided.{Within, found-is, found-in, found-has, new-is, new-in, new-absent, found-checked, new-checked, notRefused}

@@ -13,9 +13,9 @@ use Rattle.tables.specs.Gathered.{gathered}
 use Rattle.tables.proofs.Gathering.{swapped}
 use Rattle.orders.proofs.Ordered.{too-long}
 use Rattle.answers.specs.Flat.{notAccepted}
+use Rattle.operations.specs.declared.operation.Operation.{Operation}
 use Rattle.ways.specs.Ways.{offeredCheck, placeOf, unless, wayOf}
 use Rattle.changes.specs.Changes.{nowhere, outcomeBy, changeBy, changeOf, storeOf}
-use Rattle.ways.specs.declared.operations.Operation.{Operation}
 use Rattle.ways.specs.declared.slot.Way.{Way}
 use Rattle.ways.specs.declared.slot.Way.the-variants as way
 use Rattle.changes.specs.declared.change.Change.{Change}

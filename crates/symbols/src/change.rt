@@ -1,8 +1,8 @@
 use answers::Answer;
 use changes::choose;
 use columns::Symbol;
+use operations::Operation;
 use tables::gather;
-use ways::Operation;
 ghost use mathlib.Core.Path.{_≡_};
 ghost use Rattle.changes.specs.Changes as rules;
 

@@ -1,14 +1,14 @@
 use crate::change::change_symbol;
 use answers::Answer;
 use columns::Symbol;
-use ways::Declared;
-use ways::Offer;
-use ways::Operation;
-use ways::forward;
-use ways::put;
+use operations::Declared;
+use operations::Offer;
+use operations::Operation;
+use operations::forward;
+use operations::put;
 ghost use mathlib.Core.Path.{_≡_};
 ghost use mathlib.Core.List.{[]};
-ghost use Rattle.ways.specs.Ways as ways;
+ghost use Rattle.operations.specs.Operations as operations;
 ghost use Rattle.changes.specs.Changes as rules;
 
 // Puts nothing, poison or a type under a name.
@@ -22,9 +22,9 @@ pub fn put_symbol(
     mark: u64,
     offered: &[u64],
 ) -> Answer
-    ensures { λ r. ⌜ (r ≡ rules.outcome (ways.put offer) id authority place mark (now (offered .entry)) (now (table .entry)) (now (store .entry)) .answer)
-        × (now (table .exit) ≡ rules.outcome (ways.put offer) id authority place mark (now (offered .entry)) (now (table .entry)) (now (store .entry)) .table)
-        × (now (store .exit) ≡ rules.outcome (ways.put offer) id authority place mark (now (offered .entry)) (now (table .entry)) (now (store .entry)) .store) ⌝ }
+    ensures { λ r. ⌜ (r ≡ rules.outcome (operations.put offer) id authority place mark (now (offered .entry)) (now (table .entry)) (now (store .entry)) .answer)
+        × (now (table .exit) ≡ rules.outcome (operations.put offer) id authority place mark (now (offered .entry)) (now (table .entry)) (now (store .entry)) .table)
+        × (now (store .exit) ≡ rules.outcome (operations.put offer) id authority place mark (now (offered .entry)) (now (table .entry)) (now (store .entry)) .store) ⌝ }
 {
     change_symbol(
         table,
@@ -75,9 +75,9 @@ pub fn forward_declare_symbol(
     mark: u64,
     offered: &[u64],
 ) -> Answer
-    ensures { λ r. ⌜ (r ≡ rules.outcome (ways.forward declared) id authority place mark (now (offered .entry)) (now (table .entry)) (now (store .entry)) .answer)
-        × (now (table .exit) ≡ rules.outcome (ways.forward declared) id authority place mark (now (offered .entry)) (now (table .entry)) (now (store .entry)) .table)
-        × (now (store .exit) ≡ rules.outcome (ways.forward declared) id authority place mark (now (offered .entry)) (now (table .entry)) (now (store .entry)) .store) ⌝ }
+    ensures { λ r. ⌜ (r ≡ rules.outcome (operations.forward declared) id authority place mark (now (offered .entry)) (now (table .entry)) (now (store .entry)) .answer)
+        × (now (table .exit) ≡ rules.outcome (operations.forward declared) id authority place mark (now (offered .entry)) (now (table .entry)) (now (store .entry)) .table)
+        × (now (store .exit) ≡ rules.outcome (operations.forward declared) id authority place mark (now (offered .entry)) (now (table .entry)) (now (store .entry)) .store) ⌝ }
 {
     change_symbol(
         table,

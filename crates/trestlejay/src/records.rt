@@ -1,12 +1,12 @@
 use answers::Answer;
 use columns::Symbol;
+use operations::Declared;
+use operations::Offer;
+use operations::Operation;
 use symbols::forward_declare_symbol;
 use symbols::get_symbol;
 use symbols::poison_symbol;
 use symbols::put_symbol;
-use ways::Declared;
-use ways::Offer;
-use ways::Operation;
 ghost use mathlib.Core.Path.{_≡_};
 ghost use mathlib.Core.List.{[]};
 ghost use Rattle.lone.specs.Lone as rules;

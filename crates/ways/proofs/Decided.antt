@@ -18,8 +18,9 @@ use Rattle.columns.proofs.Reading.{length-read}
 use Rattle.searches.proofs.Searching.{slot-has}
 use Rattle.orders.specs.Order.{inOrder}
 use Rattle.orders.proofs.Ordered.{Ordered, ordered, slot-there, free-there}
-use Rattle.ways.specs.Ways.{offersType, putsNothing, offeredCheck, placeOf, unless, wayOf}
-use Rattle.ways.specs.declared.operations.Operation.{Operation}
+use Rattle.operations.specs.declared.operation.Operation.{Operation}
+use Rattle.operations.specs.Operations.{offersType, putsNothing}
+use Rattle.ways.specs.Ways.{offeredCheck, placeOf, unless, wayOf}
 use Rattle.ways.specs.declared.slot.Way.{Way}
 use Rattle.ways.specs.declared.slot.Way.the-variants as way
 

@@ -1,5 +1,5 @@
--- What is done to a table under a name, and which record that is about.
-use mathlib.Core.Bool.{Bool, true, false, cond}
+-- Which record of a table an operation is about.
+use mathlib.Core.Bool.{cond}
 use mathlib.Core.List.{List}
 use Prim.Native.Nat.{ℕ}
 use lib.Dec.{ltb}
@@ -9,38 +9,10 @@ use Rattle.checks.specs.Check.{checkOf}
 use Rattle.columns.specs.declared.symbol.Symbol.{Symbol}
 use Rattle.searches.specs.Search.{slotFor, firstFree}
 use Rattle.orders.specs.Order.{inOrder}
-use Rattle.ways.specs.declared.operations.Operation.{Operation}
-use Rattle.ways.specs.declared.operations.Operation.the-variants as operation
-use Rattle.ways.specs.declared.operations.Offer.{Offer}
-use Rattle.ways.specs.declared.operations.Offer.the-variants as offer
-use Rattle.ways.specs.declared.operations.Declared.{Declared}
-use Rattle.ways.specs.declared.operations.Declared.the-variants as declared
+use Rattle.operations.specs.declared.operation.Operation.{Operation}
+use Rattle.operations.specs.Operations.{offersType, putsNothing}
 use Rattle.ways.specs.declared.slot.Way.{Way}
 use Rattle.ways.specs.declared.slot.Way.the-variants as way
-
--- Put is of nothing, poison or a type; a forward declaration of poison or a type.
-abbrev pub put : Offer → Operation
-put offer.Nothing = operation.PutNothing
-put offer.Poison = operation.PutPoison
-put offer.Type = operation.PutType
-
-abbrev pub forward : Declared → Operation
-forward declared.Poison = operation.ForwardPoison
-forward declared.Type = operation.ForwardType
-
-abbrev pub offersType : Operation → Bool
-offersType operation.PutNothing = false
-offersType operation.PutPoison = false
-offersType operation.PutType = true
-offersType operation.ForwardPoison = false
-offersType operation.ForwardType = true
-
-abbrev pub putsNothing : Operation → Bool
-putsNothing operation.PutNothing = true
-putsNothing operation.PutPoison = false
-putsNothing operation.PutType = false
-putsNothing operation.ForwardPoison = false
-putsNothing operation.ForwardType = false
 
 -- "Types are checked 1, 2 (all layers), 3"; nothing and a poison mark are no type.
 abbrev pub offeredCheck : Operation → List ℕ → Answer ℕ

@@ -1,7 +1,7 @@
-use crate::operations::Operation;
-use crate::operations::offers_type;
-use crate::operations::puts_nothing;
 use layers::Checked;
+use operations::Operation;
+use operations::offers_type;
+use operations::puts_nothing;
 use orders::in_order;
 use refusals::check_type;
 use searches::first_free;

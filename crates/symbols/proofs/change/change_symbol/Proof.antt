@@ -62,12 +62,12 @@ use Rattle.answers.specs.declared.flat.Answer.{Answer}
 use Rattle.answers.proofs.flat.Answer as B
 use Rattle.answers.proofs.flat.Answer.Laws as B′
 use Rattle.changes.specs.Changes.{outcome, changeOf, storeOf}
-use Rattle.ways.specs.declared.operations.Operation.{Operation}
+use Rattle.operations.specs.declared.operation.Operation.{Operation}
 use Rattle.changes.specs.declared.change.Change.{Change}
 use Rattle.changes.proofs.Outcomes.{answer-is, store-is, table-kept, table-set}
 use Rattle.symbols.proofs.Whole.{change-same, store-same}
-use Rattle.ways.proofs.operations.Operation as O
-use Rattle.ways.proofs.operations.Operation.Laws as O′
+use Rattle.operations.proofs.operation.Operation as O
+use Rattle.operations.proofs.operation.Operation.Laws as O′
 use Rattle.changes.proofs.change.Change as N
 use Rattle.changes.proofs.change.Change.Laws as N′
 use Rattle.changes.proofs.choose as choose

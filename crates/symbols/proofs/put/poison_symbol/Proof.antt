@@ -45,10 +45,10 @@ use Rattle.columns.proofs.symbol.Symbol as T
 use Rattle.answers.specs.declared.flat.Answer.{Answer}
 use Rattle.answers.proofs.flat.Answer as R
 use Rattle.answers.proofs.flat.Answer.Laws as R′
-use Rattle.ways.specs.declared.operations.Operation.{Operation}
-use Rattle.ways.specs.declared.operations.Operation.the-variants.{PutPoison}
-use Rattle.ways.proofs.operations.Operation as O
-use Rattle.ways.proofs.operations.Operation.Laws as O′
+use Rattle.operations.specs.declared.operation.Operation.{Operation}
+use Rattle.operations.specs.declared.operation.Operation.the-variants.{PutPoison}
+use Rattle.operations.proofs.operation.Operation as O
+use Rattle.operations.proofs.operation.Operation.Laws as O′
 use Rattle.symbols.proofs.change.change_symbol as g
 use Rattle.symbols.proofs.change.change_symbol.Symbol as callee
 use Rattle.symbols.proofs.change.change_symbol.Met as callee-thm

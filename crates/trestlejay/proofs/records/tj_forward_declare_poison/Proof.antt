@@ -45,10 +45,10 @@ use Rattle.columns.proofs.symbol.Symbol as T
 use Rattle.answers.specs.declared.flat.Answer.{Answer}
 use Rattle.answers.proofs.flat.Answer as R
 use Rattle.answers.proofs.flat.Answer.Laws as R′
-use Rattle.ways.specs.declared.operations.Declared.{Declared}
-use Rattle.ways.specs.declared.operations.Declared.the-variants as declared
-use Rattle.ways.proofs.operations.Declared as O
-use Rattle.ways.proofs.operations.Declared.Laws as O′
+use Rattle.operations.specs.declared.operation.Declared.{Declared}
+use Rattle.operations.specs.declared.operation.Declared.the-variants as declared
+use Rattle.operations.proofs.operation.Declared as O
+use Rattle.operations.proofs.operation.Declared.Laws as O′
 use Rattle.symbols.proofs.forward_declare_symbol as g
 use Rattle.symbols.proofs.forward_declare_symbol.Symbol as callee
 use Rattle.symbols.proofs.forward_declare_symbol.Met as callee-thm

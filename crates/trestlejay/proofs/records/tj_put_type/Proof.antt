@@ -38,10 +38,10 @@ use Rattle.columns.proofs.symbol.Symbol as T
 use Rattle.answers.specs.declared.flat.Answer.{Answer}
 use Rattle.answers.proofs.flat.Answer as R
 use Rattle.answers.proofs.flat.Answer.Laws as R′
-use Rattle.ways.specs.declared.operations.Offer.{Offer}
-use Rattle.ways.specs.declared.operations.Offer.the-variants as offer
-use Rattle.ways.proofs.operations.Offer as O
-use Rattle.ways.proofs.operations.Offer.Laws as O′
+use Rattle.operations.specs.declared.operation.Offer.{Offer}
+use Rattle.operations.specs.declared.operation.Offer.the-variants as offer
+use Rattle.operations.proofs.operation.Offer as O
+use Rattle.operations.proofs.operation.Offer.Laws as O′
 use Rattle.symbols.proofs.put_symbol as g
 use Rattle.symbols.proofs.put_symbol.Symbol as callee
 use Rattle.symbols.proofs.put_symbol.Met as callee-thm

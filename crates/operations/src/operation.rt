@@ -1,5 +1,5 @@
 ghost use mathlib.Core.Path.{_≡_};
-ghost use Rattle.ways.specs.Ways as rules;
+ghost use Rattle.operations.specs.Operations as rules;
 
 // What is done to a table under a name.
 pub enum Operation {
@@ -54,7 +54,7 @@ pub fn offers_type(operation: Operation) -> bool
     }
 }
 
-pub(crate) fn puts_nothing(operation: Operation) -> bool
+pub fn puts_nothing(operation: Operation) -> bool
     ensures { λ r. ⌜ r ≡ rules.putsNothing operation ⌝ }
 {
     match operation {
