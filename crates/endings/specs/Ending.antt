@@ -20,16 +20,24 @@ abbrev pub refused : ℕ → Ending
 refused number = record { refused = true; number = number; extra = 0; kind = 0; lead = 0; address = false; coerced = false }
 
 abbrev pub endingOf : Settling → ℕ → ℕ → Ending
-endingOf (settling.Kept b) p n = given 0 of-step.autoderef 0 false b
+endingOf settling.Identical p n = given 0 of-step.autoderef 0 false false
 endingOf settling.Viewed p n = given 1 of-step.autoview 0 false false
-endingOf (settling.Addressed b) p n = given 0 of-step.autoderef 1 true b
+endingOf settling.Coerced p n = given 0 of-step.autoderef 0 false true
+endingOf settling.SlicePointer p n = given 0 of-step.autoderef 0 false false
+endingOf settling.PointedTo p n = given 0 of-step.autoderef 1 true false
+endingOf settling.AddressCoerced p n = given 0 of-step.autoderef 1 true true
+endingOf settling.Addressed p n = given 0 of-step.autoderef 1 true false
 endingOf settling.Dereferenced p n = given (unwound p n) of-step.autoderef n false false
 endingOf (settling.Refused k) p n = refused k
 
 -- The words of the reported type after its Pointers, of the current type's and the target's.
 abbrev pub bodyOf : Settling → List ℕ → List ℕ → List ℕ
-bodyOf (settling.Kept b) c t = c
+bodyOf settling.Identical c t = c
 bodyOf settling.Viewed c t = t
-bodyOf (settling.Addressed b) c t = c
+bodyOf settling.Coerced c t = c
+bodyOf settling.SlicePointer c t = c
+bodyOf settling.PointedTo c t = c
+bodyOf settling.AddressCoerced c t = c
+bodyOf settling.Addressed c t = c
 bodyOf settling.Dereferenced c t = fullyDereferenced c
 bodyOf (settling.Refused k) c t = c

@@ -54,9 +54,13 @@ pub fn ending_of(s: Settling, p: u64, depth: u64) -> Ending
     ensures { λ r. ⌜ r ≡ ending.endingOf s p depth ⌝ }
 {
     match s {
-        Settling::Kept(coerced) => given(0, StepKind::AUTODEREF, 0, false, coerced),
+        Settling::Identical => given(0, StepKind::AUTODEREF, 0, false, false),
         Settling::Viewed => given(1, StepKind::AUTOVIEW, 0, false, false),
-        Settling::Addressed(coerced) => given(0, StepKind::AUTODEREF, 1, true, coerced),
+        Settling::Coerced => given(0, StepKind::AUTODEREF, 0, false, true),
+        Settling::SlicePointer => given(0, StepKind::AUTODEREF, 0, false, false),
+        Settling::PointedTo => given(0, StepKind::AUTODEREF, 1, true, false),
+        Settling::AddressCoerced => given(0, StepKind::AUTODEREF, 1, true, true),
+        Settling::Addressed => given(0, StepKind::AUTODEREF, 1, true, false),
         Settling::Dereferenced => given(
             unwound(p, depth),
             StepKind::AUTODEREF,
@@ -73,9 +77,13 @@ pub fn body_of<'a>(s: Settling, cur: &'a [u64], target: &'a [u64]) -> &'a [u64]
     ensures { λ r. ⌜ now r ≡ ending.bodyOf s (now (cur .entry)) (now (target .entry)) ⌝ }
 {
     match s {
-        Settling::Kept(_) => cur,
+        Settling::Identical => cur,
         Settling::Viewed => target,
-        Settling::Addressed(_) => cur,
+        Settling::Coerced => cur,
+        Settling::SlicePointer => cur,
+        Settling::PointedTo => cur,
+        Settling::AddressCoerced => cur,
+        Settling::Addressed => cur,
         Settling::Dereferenced => fully_dereferenced(cur),
         Settling::Refused(_) => cur,
     }

@@ -7,19 +7,19 @@ use Prim.Native.Nat.{ℕ, zero, suc, _+_, _/_, _%_}
 use lib.Dec.{eqb, leb, ltb}
 use lib.ListN.{length, drop}
 use Rattle.kinds.specs.Kind as kind
-use Rattle.layers.specs.Layers.{Layer, layers, outer, inside}
+use Rattle.layers.specs.Layers.{Layer, layers, outer}
 use Rattle.layers.specs.Answer.{Answer, given, nothing, refused, next}
 use Rattle.checks.specs.Check.{Place, at, nowhere, badCount, badLayer, misplaced, unless, checkOf}
 use Rattle.forms.specs.Formed.{wellFormed}
-use Rattle.equalities.specs.Equalities.{identical}
-use Rattle.coercions.specs.Coercions.{coerces, addressCoerces}
 use Rattle.sizes.specs.Depth.{pointerDepth}
 use Rattle.columns.specs.declared.symbol.Symbol.{Symbol}
 use Rattle.orders.specs.Order.{inOrder}
 use Rattle.steps.specs.Steps.{Step, steps, goodSteps, stepWords, stepsAnswer}
 use Rattle.turns.specs.declared.turn.Turn.{Turn}
 use Rattle.turns.specs.declared.turn.Turn.the-variants.{Stuck, Auto, Element, Desliced, Member}
-use Rattle.settlings.specs.Settling.{Settled, plainly, settle, settleOtherwise}
+use Rattle.settlings.specs.Line as line
+use Rattle.settlings.specs.Line.{Line}
+use Rattle.settlings.specs.Settling.{Settled, settleOtherwise, lineOf, settleBy, settle}
 use Rattle.walker.specs.Walker.{Stored, typed, absent}
 use Rattle.walker.specs.Members.{members}
 use Rattle.rounds.specs.Walk.{Walk, ended, stopped, stepsOf, takenBy, memberType, goes, turnOf, onward, walk}
@@ -99,18 +99,24 @@ module _ (stored : ℕ → Stored) where
       (λ u. walk-stops n u (drop (takenBy r) (a ∷ q)))
 
 -- the settling
+otherwise-tells : (c : List Layer) (n p : ℕ) → tells (settleOtherwise c n p) ≡ true
+unfolding settleOtherwise
+otherwise-tells c n p =
+    either (leb (p + 2) n) _ _ refl (either (eqb n (p + 1)) _ _ refl (either (eqb (outer c) kind.slicePointer) _ _ refl refl))
+
+by-line : (l : Line) (c t : List Layer) (n : ℕ) → tells (settleBy l c t n) ≡ true
+unfolding settleBy
+by-line line.i c t n = refl
+by-line line.ii c t n = refl
+by-line line.iii c t n = refl
+by-line line.iv c t n = refl
+by-line line.v c t n = refl
+by-line line.vi c t n = refl
+by-line line.vii c t n = otherwise-tells c n (pointerDepth c)
+
 settle-tells : (c t : List Layer) (n : ℕ) → tells (settle c t n) ≡ true
-unfolding settle settleOtherwise
-settle-tells c t n =
-    either (plainly t n && identical c t) _ _ refl
-    (either (plainly t n && eqb (outer c) kind.view && identical (inside c) t) _ _ refl
-    (either (plainly t n && coerces c t) _ _ refl
-    (either (eqb n 1 && eqb (outer c) kind.slicePointer && identical c t) _ _ refl
-    (either (ltb 0 n && eqb (outer t) kind.pointer && identical (inside t) c) _ _ refl
-    (either (ltb 0 n && addressCoerces c t) _ _ refl
-    (either (leb (pointerDepth c + 2) n) _ _ refl
-    (either (eqb n (pointerDepth c + 1)) _ _ refl
-    (either (eqb (outer c) kind.slicePointer) _ _ refl refl))))))))
+unfolding settle
+settle-tells c t n = by-line (lineOf c t n) c t n
 
 settling-tells : (ss : List Step) (k : ℕ) (a : Answer Settled) → tells a ≡ true → tells (withSettling ss k a) ≡ true
 settling-tells ss k (given s) e = either (ltb 16 (length (s .type))) _ _ refl refl

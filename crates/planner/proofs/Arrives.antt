@@ -1,85 +1,126 @@
--- The third demand holds of every plan that is given.
+-- The third demand holds of every plan that is given; and what such a plan reports.
 -- Assumes nothing.
-use mathlib.Core.Path.{_≡_, refl, subst, _∙_}
-use mathlib.Core.Bool.{Bool, true, false, cond, not}
+use mathlib.Core.Path.{_≡_, refl, sym, ap, _∙_}
+use mathlib.Core.Bool.{Bool, true, false, false≢true, _&&_}
 use mathlib.Core.Logic.{_⊎_, inl, inr, ⊎-elim}
-use mathlib.Core.List.{List, _++_, append-nil}
-use Prim.Native.Nat.{ℕ}
-use lib.Dec.{ltb}
-use lib.ListN.{length}
-use Rattle.layers.specs.Layers.{Layer}
-use Rattle.layers.specs.Answer.{Answer, given, nothing, refused}
-use Rattle.forms.specs.Formed.{wellFormed}
-use Rattle.steps.specs.Steps.{Step}
-use Rattle.settlings.specs.Settling.{Settled, settle}
-use Rattle.layers.proofs.Given.{not-given, nothing-given, given-is}
-use Rattle.walker.specs.Walker.{Stored, typed, arrives}
-use Rattle.rounds.specs.Walk.{Walk, ended, stopped, walk}
-use Rattle.reports.specs.Plan.{Plan}
-use Rattle.rounds.specs.Walked.{withSettling, settleWalk}
-use Rattle.planner.specs.Plan.{planOf}
-use Rattle.planner.specs.Demand.{Hidden, Demand}
-use Rattle.planner.proofs.Walks.{asked-append, walker-append, walks, in-order, all-taken}
+use mathlib.Core.List.{List, [], _∷_, _++_, append-nil}
+use Prim.Native.Nat.{ℕ, _+_, _≤_}
+use native.Mathlib.Omega.{arith}
+use lib.Dec.{eqb}
+use lib.ListN.{length, length-append}
+use borrow.Author.Tests.{eqb-true}
+use Rattle.kinds.specs.Kind as kind
+use Rattle.layers.specs.Layers.{Layer, outer, inside}
+use Rattle.layers.specs.Answer.{given}
+use Rattle.layers.proofs.Decide.{both}
+use Rattle.checks.specs.Check.{goodLayer}
 use Rattle.checks.proofs.Accepted.{goodLayers}
-use Rattle.planner.proofs.Sound.{walk-sound}
-use Rattle.planner.proofs.Settles.{Exception, settles, asks-nothing}
+use Rattle.sizes.specs.Depth.{pointerDepth}
+use Rattle.forms.specs.Formed.{wellFormed}
+use Rattle.equalities.specs.Equalities.{identical}
+use Rattle.equalities.proofs.Theorems.{identical-equal}
+use Rattle.coercions.specs.Coercions.{coerces, addressCoerces}
+use Rattle.steps.specs.Steps.{Step, goodSteps}
+use Rattle.steps.proofs.Words.{good-append}
+use Rattle.settlings.specs.Line as line
+use Rattle.settlings.specs.Settling.{Settled, pointer, settleOtherwise, lineOf, settle}
+use Rattle.settlings.proofs.Lines.{lines}
+use Rattle.walker.specs.Walker.{at, Stored, typed, walker, arrives}
+use Rattle.rounds.specs.Walk.{ended, walk}
+use Rattle.rounds.proofs.Finishing.{depth-few}
+use Rattle.reports.specs.Plan.{Plan}
+use Rattle.planner.specs.Plan.{planOf}
+use Rattle.planner.specs.Demand.{rounds, Hidden, Demand}
+use Rattle.planner.specs.Reported.{Coerced, Last, Reported}
+use Rattle.planner.proofs.Walks.{asked-append, rounds-append, walker-append, walks, in-order, all-taken, no-more, all-good, few-steps}
+use Rattle.planner.proofs.Sound.{Passing, Sound, walk-sound}
+use Rattle.planner.proofs.Settles.{Exception, exact, at-is, settles, asks-nothing, adds-good, adds-few}
+use Rattle.planner.proofs.Plans.{planned, every-plan}
 
-module _ (stored : ℕ → Stored) (members : (id : ℕ) (t : List Layer) → stored id ≡ typed t → goodLayers t ≡ true)
-    (known : List Layer) (good : goodLayers known ≡ true) (q : List Step) (target : List Layer) (depth limit : ℕ) where
-  abbrev planned : List Step → ℕ → Settled → Plan
-  planned ss k s = record { steps = ss ++ s .steps; taken = k; type = s .type; address = s .address; coerced = s .coerced }
+module _ (stored : ℕ → Stored) (members : (id : ℕ) (t : List Layer) → stored id ≡ typed t → Passing t)
+    (known : List Layer) (passing : Passing known) (q : List Step) (good : goodSteps q ≡ true) (target : List Layer) (depth limit : ℕ) where
+  module _ (formed : wellFormed known ≡ true) (ss : List Step) (k : ℕ) (c : List Layer) (e : walk stored limit known q ≡ ended ss k c) where
+    sound : Sound c
+    sound = walk-sound stored members limit known q ss k c e (record { formed = formed; passing = passing })
 
-  module _ (formed : wellFormed known ≡ true) (ss : List Step) (k : ℕ) (c : List Layer) (e : walk stored limit known q ≡ ended ss k c)
-      (s : Settled) (f : settle c target depth ≡ given s) where
-    along : (us : List Step) (a : Bool) → arrives stored (ss ++ us) a known ≡ arrives stored us a c
-    unfolding arrives
-    along us a = rw (walker-append stored ss us known, walks stored limit known q ss k c e) refl
+    module _ (s : Settled) (f : settle c target depth ≡ given s) where
+      along : (us : List Step) (a : Bool) → arrives stored (ss ++ us) a known ≡ arrives stored us a c
+      unfolding arrives
+      along us a = rw (walker-append stored ss us known, walks stored limit known q ss k c e) refl
 
-    hidden : Exception stored c target depth s → Hidden stored known target depth (planned ss k s)
-    hidden x = record {
-      c = c;
-      ends = rw (x .is, append-nil) (walks stored limit known q ss k c e);
-      level = x .level;
-      view = x .view;
-      last = x .last;
-      type = rw (x .is);
-      plain = rw (x .is);
-    }
+      hidden : Exception stored c target depth s → Hidden stored known target depth (planned ss k s)
+      hidden x = record {
+        c = c;
+        ends = rw (x .is, append-nil) (walks stored limit known q ss k c e);
+        level = x .level;
+        view = x .view;
+        last = x .last;
+        type = rw (x .is);
+        plain = rw (x .is);
+      }
 
-    meets : Demand stored known q target depth limit (planned ss k s)
-    meets = record {
-      order = asked-append ss (s .steps) ∙ rw (in-order stored limit known q ss k c e, asks-nothing c target depth s f, append-nil);
-      all = rw e (all-taken stored limit known q ss k c e);
-      there =
-          ⊎-elim (λ l. inl (along (s .steps) (s .address) ∙ l)) (λ x. inr (hidden x))
-          (settles stored c target depth (walk-sound stored members limit known q ss k c e (record { formed = formed; good = good })) s f);
-    }
+      meets : Demand stored known q target depth limit (planned ss k s)
+      meets = record {
+        order = asked-append ss (s .steps) ∙ rw (in-order stored limit known q ss k c e, asks-nothing c target depth s f, append-nil);
+        few = no-more stored limit known q ss k c e;
+        all =
+            ⊎-elim (λ (i : k ≡ length q). inl i) (λ (i : rounds ss ≡ limit). inr (omega (arith, i, rounds-append ss (s .steps))))
+            (all-taken stored limit known q ss k c e);
+        good = good-append ss (s .steps) ∙ rw (all-good stored limit known q ss k c e good, adds-good c target depth s f) refl;
+        there =
+            ⊎-elim (λ l. inl (along (s .steps) (s .address) ∙ l)) (λ x. inr (hidden x)) (settles stored c target depth sound s f);
+      }
 
-  module _ (plan : Plan) where
-    abbrev Demanded : Type 0
-    Demanded = Demand stored known q target depth limit plan
+      on-view : Exception stored c target depth s → arrives stored (ss ++ s .steps) (s .address) known ≡ at c
+      unfolding arrives walker
+      on-view x = along (s .steps) (s .address) ∙ rw (x .is) refl
 
-    by-width : (p : Plan) (f : Bool) → cond f (refused 15 0) (given p) ≡ given plan → Demand stored known q target depth limit p → Demanded
-    by-width p true g d = absurd (not-given 15 0 plan g)
-    by-width p false g d = subst (Demand stored known q target depth limit) (given-is p plan g) d
+      narrow : length (s .type) ≤ 16 → (u : List Layer) → arrives stored (ss ++ s .steps) (s .address) known ≡ at u → length u ≤ 16
+      narrow w u there =
+          ⊎-elim
+          (λ l. let is : s .type ≡ u = at-is stored (s .type) u (sym (along (s .steps) (s .address) ∙ l) ∙ there) in rw (← is) w)
+          (λ x. let is : c ≡ u = at-is stored c u (sym (on-view x) ∙ there) in rw (← is) (sound .passing .few))
+          (settles stored c target depth sound s f)
 
-    by-settling : (ss : List Step) (k : ℕ) (a : Answer Settled) → withSettling ss k a ≡ given plan →
-        ((s : Settled) → a ≡ given s → Demand stored known q target depth limit (planned ss k s)) → Demanded
-    by-settling ss k (given s) g d = by-width (planned ss k s) (ltb 16 (length (s .type))) g (d s refl)
-    by-settling ss k nothing g d = absurd (nothing-given plan g)
-    by-settling ss k (refused n p) g d = absurd (not-given n p plan g)
+      -- a plan has at most one step for each round, one for each asked step, and 17 of the settling
+      short : length (ss ++ s .steps) ≤ limit + length q + 17
+      short =
+          omega (arith, length-append ss (s .steps), few-steps stored limit known q ss k c e, no-more stored limit known q ss k c e, adds-few c target depth s f, depth-few c, sound .passing .few)
 
-    by-walk : (w : Walk) → walk stored limit known q ≡ w → wellFormed known ≡ true → settleWalk w target depth ≡ given plan → Demanded
-    by-walk (ended ss k c) e f g = by-settling ss k (settle c target depth) g (meets f ss k c e)
-    by-walk (stopped n) e f g = absurd (not-given n 0 plan g)
+  -- THE THEOREM
+  pub demand : (plan : Plan) → planOf stored known q target depth limit ≡ given plan → Demand stored known q target depth limit plan
+  demand = every-plan stored known q target depth limit (Demand stored known q target depth limit) (λ formed ss k c e s f w. meets formed ss k c e s f)
 
-    by-forms : (f h : Bool) → wellFormed known ≡ f → cond (not f) (refused 4 0) (cond (not h) (refused 4 0) (settleWalk (walk stored limit known q) target depth)) ≡ given plan →
-        Demanded
-    by-forms true true e g = by-walk (walk stored limit known q) refl e g
-    by-forms true false e g = absurd (not-given 4 0 plan g)
-    by-forms false h e g = absurd (not-given 4 0 plan g)
+  pub few-in-all : (plan : Plan) → planOf stored known q target depth limit ≡ given plan → length (plan .steps) ≤ limit + length q + 17
+  few-in-all =
+      every-plan stored known q target depth limit (λ plan. length (plan .steps) ≤ limit + length q + 17) (λ formed ss k c e s f w. short formed ss k c e s f)
 
-    -- THE THEOREM
-    pub demand : planOf stored known q target depth limit ≡ given plan → Demanded
-    unfolding planOf
-    demand g = by-forms (wellFormed known) (wellFormed target) refl g
+  -- the walker arrives at a type of at most 16 layers, also where the exception holds
+  pub arrives-few : (plan : Plan) → planOf stored known q target depth limit ≡ given plan →
+      (u : List Layer) → arrives stored (plan .steps) (plan .address) known ≡ at u → length u ≤ 16
+  arrives-few =
+      every-plan stored known q target depth limit (λ plan. (u : List Layer) → arrives stored (plan .steps) (plan .address) known ≡ at u → length u ≤ 16)
+      (λ formed ss k c e s f w. narrow formed ss k c e s f w)
+
+-- what is reported
+module _ (target : List Layer) (good : goodLayers target ≡ true) where
+  points : (c t : List Layer) → goodLayers t ≡ true → eqb (outer t) kind.pointer ≡ true → identical (inside t) c ≡ true → pointer ∷ c ≡ t
+  unfolding outer inside goodLayers
+  points c [] g e f = absurd (false≢true e)
+  points c (x ∷ a) g e f =
+      rw (exact x (both (goodLayer x) (goodLayers a) g .0) (eqb-true (x .kind) kind.pointer e), identical-equal a c f) refl
+
+  module _ (stored : ℕ → Stored) (known : List Layer) (q : List Step) (depth limit : ℕ) where
+    reports : (ss : List Step) (k : ℕ) (c : List Layer) → walker stored ss known ≡ at c → (s : Settled) → settle c target depth ≡ given s →
+        Reported stored known target depth (planned ss k s)
+    reports ss k c w s f =
+        lines c target depth (λ s. Reported stored known target depth (planned ss k s)) (λ e. inl (identical-equal c target e, refl)) (λ e f. inl (refl, refl))
+        (λ e. inr (inl (record { c = c; ends = rw append-nil w; coerced = refl; into = inl (e, refl, refl) })))
+        (λ e f. inl (points c target good e f, refl))
+        (λ e. inr (inl (record { c = c; ends = rw append-nil w; coerced = refl; into = inr (e, refl, refl) })))
+        (λ is s g. inr (inr (record { walked = ss; further = s .steps; steps = refl; c = c; ends = w; applies = is; gives = g }))) s f
+
+    pub reported : (plan : Plan) → planOf stored known q target depth limit ≡ given plan → Reported stored known target depth plan
+    reported =
+        every-plan stored known q target depth limit (Reported stored known target depth)
+        (λ formed ss k c e s f w. reports ss k c (walks stored limit known q ss k c e) s f)

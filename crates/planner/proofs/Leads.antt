@@ -1,16 +1,19 @@
--- What one round does: its steps lead the walker where the round goes on, and the asked steps among them are those that
--- it takes.
+-- What one round does: its steps lead the walker where the round goes on, the asked steps among them are those that it
+-- takes, and it adds good steps.
 -- Assumes nothing.
 use mathlib.Core.Path.{_≡_, refl, sym, ap, _∙_}
-use mathlib.Core.Bool.{Bool, true, false, cond}
+use mathlib.Core.Bool.{Bool, true, false, cond, _&&_}
 use mathlib.Core.List.{List, _∷_, map}
 use Prim.Native.Nat.{ℕ}
+use lib.Dec.{eqb, leb}
 use lib.ListN.{take, drop}
 use Rattle.layers.specs.Layers.{Layer, outer, inside}
 use Rattle.layers.specs.Answer.{given, refused}
 use Rattle.forms.specs.Formed.{wellFormed}
-use Rattle.steps.specs.Steps.{Step}
+use Rattle.steps.specs.StepKind as of-step
+use Rattle.steps.specs.Steps.{Step, isHandle, goodStep, goodSteps}
 use Rattle.turns.specs.declared.turn.Turn.{Turn}
+use Rattle.layers.proofs.Decide.{both}
 use Rattle.layers.proofs.Given.{not-given, given-is}
 use Rattle.turns.proofs.Cases.{cases}
 use Rattle.walker.specs.Walker.{at, Stored, typed, absent, act, walker}
@@ -26,6 +29,13 @@ reached (typed t) u g = by-form (wellFormed t) g
     by-form true g = ap typed (given-is t u g)
     by-form false g = absurd (not-given 4 0 u g)
 
+-- of an Element that is a step, the handle is one, and so is the mark
+element-good : (a : Step) → a .kind ≡ of-step.element → goodStep a ≡ true → (isHandle (a .handle) ≡ true) × (leb (a .mark) 2 ≡ true)
+unfolding goodStep
+element-good a e g =
+    let h : (isHandle (a .handle) && leb (a .mark) 2 && eqb (a .number) 0) ≡ true = rw e at g in
+    both (isHandle (a .handle)) (leb (a .mark) 2) (both (isHandle (a .handle) && leb (a .mark) 2) (eqb (a .number) 0) h .0)
+
 module _ (stored : ℕ → Stored) (t : List Layer) (a : Step) where
   abbrev Leads : Turn → Type 0
   Leads r = (u : List Layer) → goes stored t a r ≡ given u → walker stored (stepsOf a r) t ≡ at u
@@ -38,7 +48,7 @@ module _ (stored : ℕ → Stored) (t : List Layer) (a : Step) where
       (λ e u g. rw e (ap at (given-is (inside t) u g)))
       (λ e u g. rw e (ap at (given-is (inside t) u g)))
       (λ e f g h u k. rw (e, f, g) (ap at (sym (two-in t) ∙ given-is (drop 2 t) u k)))
-      (λ m e f u g. rw e (ap at (sym (one-in t) ∙ given-is (drop 1 t) u g)))
+      (λ m w e f u g. rw e (ap at (sym (one-in t) ∙ given-is (drop 1 t) u g)))
       (λ e f u g. rw e (ap at (given-is (inside t) u g)))
       (λ e f u g. rw e (ap at (given-is (inside t) u g)))
       (λ e f u g. rw (f, e, reached (stored (a .handle)) u g))
@@ -50,11 +60,23 @@ module _ (stored : ℕ → Stored) (t : List Layer) (a : Step) where
   takes q u =
       cases (outer t) (outer (inside t)) (a .kind) (a .mark)
       (λ r. goes stored t a r ≡ given u → asked (stepsOf a r) ≡ map unmarked (take (takenBy r) (a ∷ q)))
-      (λ g. refl) (λ e g. refl) (λ e g. refl) (λ d e f h g. rw h) (λ m e f g. rw f) (λ e f g. rw f) (λ e f g. rw f) (λ e f g. rw f)
+      (λ g. refl) (λ e g. refl) (λ e g. refl) (λ d e f h g. rw h) (λ m w e f g. rw f) (λ e f g. rw f) (λ e f g. rw f) (λ e f g. rw f)
 
   -- a round that goes on is one round
   pub turns-once : (u : List Layer) → goes stored t a (turnOf stored t a) ≡ given u → rounds (stepsOf a (turnOf stored t a)) ≡ 1
   unfolding rounds
   turns-once u =
       cases (outer t) (outer (inside t)) (a .kind) (a .mark) (λ r. goes stored t a r ≡ given u → rounds (stepsOf a r) ≡ 1)
-      (λ g. absurd (not-given 8 0 u g)) (λ e g. refl) (λ e g. refl) (λ d e f h g. refl) (λ m e f g. refl) (λ e f g. refl) (λ e f g. refl) (λ e f g. rw f)
+      (λ g. absurd (not-given 8 0 u g)) (λ e g. refl) (λ e g. refl) (λ d e f h g. refl) (λ m w e f g. refl) (λ e f g. refl) (λ e f g. refl) (λ e f g. rw f)
+
+  -- the steps of a round are steps where the asked one is
+  pub steps-good : goodStep a ≡ true → goodSteps (stepsOf a (turnOf stored t a)) ≡ true
+  unfolding goodStep goodSteps
+  steps-good =
+      cases (outer t) (outer (inside t)) (a .kind) (a .mark) (λ r. goodStep a ≡ true → goodSteps (stepsOf a r) ≡ true)
+      (λ g. refl) (λ e g. refl) (λ e g. refl)
+      (λ d e f h g. rw (element-good a h g .0, element-good a h g .1) refl)
+      (λ m w e f g. rw (element-good a f g .0, w) refl)
+      (λ e f g. rw (element-good a f g .0) refl)
+      (λ e f g. rw (element-good a f g .0) refl)
+      (λ e f g. rw g refl)

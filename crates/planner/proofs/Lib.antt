@@ -3,6 +3,7 @@ pub mod Leads
 pub mod Walks
 pub mod Sound
 pub mod Settles
+pub mod Plans
 pub mod Arrives
 pub mod Asking
 pub mod Answered
@@ -10,3 +11,4 @@ pub mod Carried
 pub mod Single
 pub mod Table
 pub mod Surprises
+pub mod Excluded

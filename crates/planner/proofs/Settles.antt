@@ -9,7 +9,7 @@ use Prim.Native.Nat.{ℕ, zero, suc, _+_, _-_, _≤_}
 use native.Mathlib.Numerals.{add-one}
 use native.Mathlib.Omega.{arith}
 use lib.Dec.{eqb}
-use lib.ListN.{drop, replicate}
+use lib.ListN.{length, drop, replicate, length-replicate}
 use borrow.Author.Tests.{eqb-true}
 use Rattle.kinds.specs.Kind as kind
 use Rattle.layers.specs.Layers.{Layer, layer, outer, inside}
@@ -21,16 +21,17 @@ use Rattle.forms.specs.Formed.{inner, wellFormed}
 use Rattle.equalities.proofs.Theorems.{identical-equal}
 use Rattle.layers.proofs.Decide.{both}
 use Rattle.steps.specs.StepKind as of-step
-use Rattle.steps.specs.Steps.{Step, step}
-use Rattle.settlings.specs.Settling.{Settled, settled, pointer, dereferenced, settleOtherwise, settle}
-use Rattle.settlings.proofs.Lines.{lines}
+use Rattle.steps.specs.Steps.{Step, step, goodStep, goodSteps}
+use Rattle.settlings.specs.Line as line
+use Rattle.settlings.specs.Settling.{Settled, settled, pointer, dereferenced, lineOf, settle}
+use Rattle.settlings.proofs.Lines.{lines, seventh}
 use Rattle.walker.specs.Walker.{at, Stored, act, walker, arrives}
 use Rattle.planner.specs.Demand.{asked}
 use Rattle.checks.proofs.Accepted.{goodLayers}
 use Rattle.planner.proofs.Sound.{Sound, inner-of}
 
 -- a good layer of the kind Pointer is a Pointer
-exact : (x : Layer) → goodLayer x ≡ true → x .kind ≡ kind.pointer → x ≡ pointer
+pub exact : (x : Layer) → goodLayer x ≡ true → x .kind ≡ kind.pointer → x ≡ pointer
 unfolding goodLayer
 exact x g e =
     let h : (eqb (x .name) 0 && eqb (x .number) 0) ≡ true = rw e at g in
@@ -79,7 +80,7 @@ view-flat [] e = refl
 view-flat (x ∷ a) e = rw (eqb-true (x .kind) kind.view e)
 
 module _ (stored : ℕ → Stored) where
-  at-is : (a b : List Layer) → at a ≡ at b → a ≡ b
+  pub at-is : (a b : List Layer) → at a ≡ at b → a ≡ b
   at-is a b e = cc
 
   module _ (x : Layer) (a : List Layer) (k : x .kind ≡ kind.pointer) (g : goodLayer x ≡ true)
@@ -121,7 +122,7 @@ module _ (stored : ℕ → Stored) where
   pub record Exception (c t : List Layer) (n : ℕ) (s : Settled) : Type 0 where
     pub level : n ≡ 0
     pub view : outer c ≡ kind.view
-    pub last : settle c t n ≡ settleOtherwise c n (pointerDepth c)
+    pub last : lineOf c t n ≡ line.vii
     pub is : s ≡ settled [] (drop (references c) c) false false
 
   module _ (c t : List Layer) (n : ℕ) (sound : Sound c) where
@@ -131,9 +132,9 @@ module _ (stored : ℕ → Stored) where
       unfolding arrives
       on-pointer e =
           let whole : pointerDepth c ≡ (pointerDepth c - n) + n = omega arith in
-          rw (unwinds c (pointer-is-inner c e (sound .formed)) (sound .good) (pointerDepth c - n) n whole) refl
+          rw (unwinds c (pointer-is-inner c e (sound .formed)) (sound .passing .good) (pointerDepth c - n) n whole) refl
 
-      on-view : settle c t n ≡ settleOtherwise c n (pointerDepth c) → eqb (outer c) kind.view ≡ true → Exception c t n (dereferenced c n (pointerDepth c))
+      on-view : lineOf c t n ≡ line.vii → eqb (outer c) kind.view ≡ true → Exception c t n (dereferenced c n (pointerDepth c))
       on-view last e =
           let none : pointerDepth c ≡ 0 = view-flat c e in
           let level : n ≡ 0 = omega (arith, none) in
@@ -147,7 +148,7 @@ module _ (stored : ℕ → Stored) where
           let level : n ≡ 0 = omega (arith, kinds .0) in
           rw (kinds .0, level, kinds .1) refl
 
-      otherwise : settle c t n ≡ settleOtherwise c n (pointerDepth c) → eqb (outer c) kind.slicePointer ≡ false →
+      otherwise : lineOf c t n ≡ line.vii → eqb (outer c) kind.slicePointer ≡ false →
           Leads c (dereferenced c n (pointerDepth c)) ⊎ Exception c t n (dereferenced c n (pointerDepth c))
       otherwise last slice = by-kind (eqb (outer c) kind.pointer) (eqb (outer c) kind.view) refl refl
         where
@@ -160,15 +161,36 @@ module _ (stored : ℕ → Stored) where
     pub settles : (s : Settled) → settle c t n ≡ given s → Leads c s ⊎ Exception c t n s
     unfolding arrives walker act
     settles s g =
-        lines c t n (λ s. Leads c s ⊎ Exception c t n s) (λ b. inl refl) (λ b. inl refl) (λ e f. inl (rw (e, identical-equal (inside c) t f) refl))
-        (λ last few slice. otherwise few last slice) s g
+        lines c t n (λ s. Leads c s ⊎ Exception c t n s) (λ e. inl refl) (λ e f. inl (rw (e, identical-equal (inside c) t f) refl)) (λ e. inl refl)
+        (λ e f. inl refl) (λ e. inl refl)
+        (λ is s h. seventh c n (λ s. Leads c s ⊎ Exception c t n s) (λ e. inl refl) (λ few slice. otherwise few is slice) s h) s g
 
--- the settling adds no element and no member step
-pub asks-nothing : (c t : List Layer) (n : ℕ) (s : Settled) → settle c t n ≡ given s → asked (s .steps) ≡ []
-unfolding asked
-asks-nothing c t n s g =
-    lines c t n (λ s. asked (s .steps) ≡ []) (λ b. refl) (λ b. refl) (λ e f. refl) (λ last few slice. none (pointerDepth c - n)) s g
-  where
-    none : (m : ℕ) → asked (replicate m autoderef) ≡ []
-    none zero = refl
-    none (suc m) = none m
+-- the steps that a settling adds: none, an Autoview, or Autoderefs, no more than Pointers
+module _ (c t : List Layer) (n : ℕ) (P : List Step → Type 0)
+    (none : P []) (one : P (step of-step.autoview 0 0 0 ∷ [])) (some : (m : ℕ) → m ≤ pointerDepth c → P (replicate m autoderef)) where
+  pub adds : (s : Settled) → settle c t n ≡ given s → P (s .steps)
+  adds s g =
+      lines c t n (λ s. P (s .steps)) (λ e. none) (λ e f. one) (λ e. none) (λ e f. none) (λ e. none)
+      (λ is s h. seventh c n (λ s. P (s .steps)) (λ e. none) (λ few slice. some (pointerDepth c - n) (omega arith)) s h) s g
+
+module _ (c t : List Layer) (n : ℕ) (s : Settled) (g : settle c t n ≡ given s) where
+  -- the settling adds no element and no member step
+  pub asks-nothing : asked (s .steps) ≡ []
+  unfolding asked
+  asks-nothing = adds c t n (λ ss. asked ss ≡ []) refl refl (λ m h. autos m) s g
+    where
+      autos : (m : ℕ) → asked (replicate m autoderef) ≡ []
+      autos zero = refl
+      autos (suc m) = autos m
+
+  pub adds-good : goodSteps (s .steps) ≡ true
+  unfolding goodStep goodSteps
+  adds-good = adds c t n (λ ss. goodSteps ss ≡ true) refl refl (λ m h. autos m) s g
+    where
+      autos : (m : ℕ) → goodSteps (replicate m autoderef) ≡ true
+      autos zero = refl
+      autos (suc m) = autos m
+
+  pub adds-few : length (s .steps) ≤ 1 + pointerDepth c
+  adds-few =
+      adds c t n (λ ss. length ss ≤ 1 + pointerDepth c) (omega arith) (omega arith) (λ m h. rw (length-replicate m autoderef) (omega (arith, h))) s g

@@ -1,11 +1,13 @@
--- The current type of a walk stays well formed, and its layers good, where those of the known type and the members are.
+-- The current type of a walk stays well formed, its layers good and at most 16, where those of the known type and the
+-- members are.
 -- Assumes nothing.
 use mathlib.Core.Path.{_≡_, refl}
 use mathlib.Core.Bool.{Bool, true, false, cond, not, _&&_, _||_, and-false, or-true, false≢true, true≢false}
 use mathlib.Core.List.{List, [], _∷_}
-use Prim.Native.Nat.{ℕ}
+use Prim.Native.Nat.{ℕ, _≤_}
+use native.Mathlib.Omega.{arith}
 use lib.Dec.{eqb}
-use lib.ListN.{drop}
+use lib.ListN.{length, drop}
 use borrow.Author.Tests.{eqb-true}
 use Rattle.kinds.specs.Kind as kind
 use Rattle.layers.specs.Layers.{Layer, outer, inside, isArray, isSlice, isReference, holdsInner}
@@ -23,10 +25,15 @@ use Rattle.planner.proofs.Leads.{reached}
 use Rattle.rounds.proofs.Going.{one-in, two-in}
 use Rattle.planner.proofs.Walks.{every-walk}
 
--- a type of good layers that is well formed
+-- a type of good layers, at most 16
+pub record Passing (t : List Layer) : Type 0 where
+  pub good : goodLayers t ≡ true
+  pub few : length t ≤ 16
+
+-- such a type that is well formed
 pub record Sound (t : List Layer) : Type 0 where
   pub formed : wellFormed t ≡ true
-  pub good : goodLayers t ≡ true
+  pub passing : Passing t
 
 no-void : (k : ℕ) → holdsInner k ≡ true → eqb k kind.void ≡ false
 no-void k e = by-kind (eqb k kind.void) refl
@@ -58,7 +65,10 @@ pub part-sound : (t : List Layer) → holdsInner (outer t) ≡ true → Sound t 
 unfolding outer inside goodLayers
 part-sound [] e s = absurd (false≢true e)
 part-sound (x ∷ a) e s =
-    record { formed = inner-formed a (inner-of x a e (s .formed)); good = both (goodLayer x) (goodLayers a) (s .good) .1 }
+    record {
+      formed = inner-formed a (inner-of x a e (s .formed));
+      passing = record { good = both (goodLayer x) (goodLayers a) (s .passing .good) .1; few = omega (arith, s .passing .few) };
+    }
 
 holds-array : (k : ℕ) → isArray k ≡ true → holdsInner k ≡ true
 holds-array k e = rw e
@@ -69,9 +79,9 @@ holds-reference k e = rw (e, or-true (isArray k || isSlice k))
 holds : (k l : ℕ) → holdsInner l ≡ true → k ≡ l → holdsInner k ≡ true
 holds k l e p = rw p e
 
-module _ (stored : ℕ → Stored) (sound : (id : ℕ) (t : List Layer) → stored id ≡ typed t → goodLayers t ≡ true) where
+module _ (stored : ℕ → Stored) (pass : (id : ℕ) (t : List Layer) → stored id ≡ typed t → Passing t) where
   member-sound : (id : ℕ) (u : List Layer) → memberType (stored id) ≡ given u → Sound u
-  member-sound id u g = record { formed = by-stored (stored id) g; good = sound id u (reached (stored id) u g) }
+  member-sound id u g = record { formed = by-stored (stored id) g; passing = pass id u (reached (stored id) u g) }
     where
       by-form : (t : List Layer) (f : Bool) → wellFormed t ≡ f → cond f (given t) (refused 4 0) ≡ given u → wellFormed u ≡ true
       by-form t true p g = rw (← given-is t u g) p
@@ -88,7 +98,7 @@ module _ (stored : ℕ → Stored) (sound : (id : ℕ) (t : List Layer) → stor
       (λ e g. rw (← given-is (inside t) u g) (part-sound t (holds (outer t) kind.pointer refl e) s))
       (λ e g. rw (← given-is (inside t) u g) (part-sound t (holds (outer t) kind.view refl e) s))
       (λ d e f h g. rw (← given-is (drop 2 t) u g, two-in t) (part-sound (inside t) (holds (outer (inside t)) kind.arraylike refl f) (part-sound t (holds-reference (outer t) e) s)))
-      (λ m e f g. rw (← given-is (drop 1 t) u g, one-in t) (part-sound t (holds-array (outer t) e) s))
+      (λ m w e f g. rw (← given-is (drop 1 t) u g, one-in t) (part-sound t (holds-array (outer t) e) s))
       (λ e f g. rw (← given-is (inside t) u g) (part-sound t (holds (outer t) kind.slice refl e) s))
       (λ e f g. rw (← given-is (inside t) u g) (part-sound t (holds (outer t) kind.slicePointer refl e) s))
       (λ e f g. member-sound (a .handle) u g) g

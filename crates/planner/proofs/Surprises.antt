@@ -12,7 +12,7 @@ use Rattle.forms.specs.Formed.{inner, element, wellFormed}
 use Rattle.equalities.specs.Equalities.{identical, plain, equals}
 use Rattle.coercions.specs.Coercions.{coerces, addressCoerces, viewAutoderefs, autoderefs}
 use Rattle.turns.specs.Turns.{turn}
-use Rattle.settlings.specs.Settling.{settleOtherwise, settle}
+use Rattle.settlings.specs.Settling.{settleOtherwise, lineOf, settleBy, settle}
 use Rattle.rounds.specs.Walk.{walk}
 use Rattle.planner.specs.Plan.{planOf}
 use Rattle.planner.proofs.Table.{leaf, of, int32, plan, planned}
@@ -29,7 +29,7 @@ pub record Surprises : Type 0 where
   pub slice-pointer-for-itself : planned (of kind.slicePointer int32) [] (of kind.slicePointer int32) 0 64 ≡ refused 10 0
 
 pub surprises : Surprises
-unfolding outer inside references pointerDepth inner element wellFormed identical plain equals coerces addressCoerces viewAutoderefs autoderefs turn settleOtherwise settle walk planOf
+unfolding outer inside references pointerDepth inner element wellFormed identical plain equals coerces addressCoerces viewAutoderefs autoderefs turn settleOtherwise lineOf settleBy settle walk planOf
 surprises = record {
   void-at-depth-1 = refl;
   pointer-to-void = refl;

@@ -16,7 +16,7 @@ use Rattle.coercions.specs.Coercions.{coerces, addressCoerces}
 use Rattle.steps.specs.StepKind as of-step
 use Rattle.steps.specs.Steps.{Step, step}
 use Rattle.turns.specs.Turns.{turn}
-use Rattle.settlings.specs.Settling.{settleOtherwise, settle}
+use Rattle.settlings.specs.Settling.{settleOtherwise, lineOf, settleBy, settle}
 use Rattle.walker.specs.Walker.{absent}
 use Rattle.rounds.specs.Walk.{walk}
 use Rattle.reports.specs.Plan.{Plan}
@@ -37,11 +37,11 @@ char8 = leaf kind.char8
 abbrev uint8 : List Layer
 uint8 = leaf kind.uint8
 
-abbrev array3 : List Layer
+abbrev pub array3 : List Layer
 array3 = layer kind.array 0 3 ∷ int32
 
 -- an Element whose endless mark is unknown
-abbrev asked-element : ℕ → Step
+abbrev pub asked-element : ℕ → Step
 asked-element a = step of-step.element a of-step.unknown 0
 
 abbrev pub plan : List Step → ℕ → List Layer → Bool → Bool → Answer Plan
@@ -73,7 +73,7 @@ pub record Table : Type 0 where
   pub to-pointer-to-pointer : planned int32 [] (of kind.pointer (of kind.pointer int32)) 2 64 ≡ refused 9 0
 
 pub table : Table
-unfolding outer inside references pointerDepth inner element wellFormed identical plain equals declared coerces addressCoerces turn settleOtherwise settle walk planOf
+unfolding outer inside references pointerDepth inner element wellFormed identical plain equals declared coerces addressCoerces turn settleOtherwise lineOf settleBy settle walk planOf
 table = record {
   char8-equals-uint8 = refl;
   char8-not-declared = refl;

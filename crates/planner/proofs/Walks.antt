@@ -1,25 +1,29 @@
 -- What a walk that has ended tells: the walker goes its steps from the known type to the current one; the asked steps
--- among them are the first ones that were asked, in order; and they are all of them, or the rounds were used up.
+-- among them are the first ones that were asked, in order; they are all of them, or the rounds were used up; each step is
+-- one; and they are few.
 -- Assumes nothing.
 use mathlib.Core.Path.{_≡_, refl, sym, subst, _∙_}
-use mathlib.Core.Bool.{Bool, true, false, cond}
+use mathlib.Core.Bool.{Bool, true, false, cond, _&&_}
 use mathlib.Core.Logic.{_⊎_, inl, inr, ⊎-elim}
 use mathlib.Core.List.{List, [], _∷_, _++_, map, map-append}
-use Prim.Native.Nat.{ℕ, zero, suc, _+_}
+use Prim.Native.Nat.{ℕ, zero, suc, _+_, _≤_}
 use native.Mathlib.Omega.{arith}
 use lib.Dec.{eqb, leb}
-use lib.ListN.{length, take, drop, length-drop}
+use lib.ListN.{length, take, drop, length-drop, length-append}
 use lib.Seq.{take-add}
 use Rattle.layers.specs.Layers.{Layer}
 use Rattle.layers.specs.Answer.{Answer, given, nothing, refused}
 use Rattle.steps.specs.StepKind as of-step
-use Rattle.steps.specs.Steps.{Step}
+use Rattle.steps.specs.Steps.{Step, goodStep, goodSteps}
+use Rattle.steps.proofs.Words.{good-append}
+use Rattle.layers.proofs.Decide.{both}
 use Rattle.turns.specs.declared.turn.Turn.{Turn}
 use Rattle.walker.specs.Walker.{Where, at, stuck, Stored, act, then, walker}
 use Rattle.rounds.specs.Walk.{Walk, ended, stopped, stepsOf, takenBy, goes, turnOf, prepend, onward, walk}
+use Rattle.turns.specs.declared.turn.Turn.the-variants.{Stuck, Auto, Element, Desliced, Member}
 use Rattle.rounds.proofs.Turning.{took-few}
 use Rattle.planner.specs.Demand.{asked, unmarked, rounds}
-use Rattle.planner.proofs.Leads.{leads, takes, turns-once}
+use Rattle.planner.proofs.Leads.{leads, takes, turns-once, steps-good}
 
 pub asked-append : (ss us : List Step) → asked (ss ++ us) ≡ asked ss ++ asked us
 unfolding asked
@@ -31,7 +35,7 @@ asked-append (s ∷ ss) us = by-kind (leb (s .kind) of-step.member) (asked-appen
     by-kind true i = rw i
     by-kind false i = i
 
-rounds-append : (ss us : List Step) → rounds (ss ++ us) ≡ rounds ss + rounds us
+pub rounds-append : (ss us : List Step) → rounds (ss ++ us) ≡ rounds ss + rounds us
 unfolding rounds
 rounds-append [] us = omega arith
 rounds-append (s ∷ ss) us = by-kind (eqb (s .kind) of-step.autodeslice) (rounds-append ss us)
@@ -40,6 +44,24 @@ rounds-append (s ∷ ss) us = by-kind (eqb (s .kind) of-step.autodeslice) (round
         cond f (rounds (ss ++ us)) (rounds (ss ++ us) + 1) ≡ cond f (rounds ss) (rounds ss + 1) + rounds us
     by-kind true i = i
     by-kind false i = omega (arith, i)
+
+good-drop : (k : ℕ) (q : List Step) → goodSteps q ≡ true → goodSteps (drop k q) ≡ true
+unfolding goodSteps
+good-drop zero q e = e
+good-drop (suc k) [] e = refl
+good-drop (suc k) (a ∷ q) e = good-drop k q (both (goodStep a) (goodSteps q) e .1)
+
+good-first : (a : Step) (q : List Step) → goodSteps (a ∷ q) ≡ true → goodStep a ≡ true
+unfolding goodSteps
+good-first a q e = both (goodStep a) (goodSteps q) e .0
+
+-- a round adds one step, and one more at most where it takes an asked one
+one-or-two : (a : Step) (t : Turn) → length (stepsOf a t) ≤ 1 + takenBy t
+one-or-two a Stuck = omega arith
+one-or-two a (Auto k) = omega arith
+one-or-two a (Element m l) = omega arith
+one-or-two a (Desliced m) = omega arith
+one-or-two a Member = omega arith
 
 module _ (stored : ℕ → Stored) where
   -- what holds where a walk leaves off, and of a round before a walk of which it holds, holds of every walk that ends
@@ -120,3 +142,25 @@ module _ (stored : ℕ → Stored) where
         inl (omega (arith, i, length-drop (takenBy (turnOf stored t a)) (a ∷ q), took-few (turnOf stored t a))))
         (λ (i : rounds us ≡ n). inr (rounds-append (stepsOf a (turnOf stored t a)) us ∙ rw (turns-once stored t a u g, i) (omega arith))) h)
         n t q ss k c e
+
+    -- no more are counted as taken than were asked
+    pub no-more : k ≤ length q
+    no-more =
+        every-walk (λ n t q ss k c. k ≤ length q) (λ t q. omega arith) (λ n t. omega arith)
+        (λ n t a q u us j c g h. omega (arith, h, length-drop (takenBy (turnOf stored t a)) (a ∷ q), took-few (turnOf stored t a))) n t q ss k c e
+
+    -- each step of a walk is one, where each asked one is
+    pub all-good : goodSteps q ≡ true → goodSteps ss ≡ true
+    unfolding goodSteps
+    all-good =
+        every-walk (λ n t q ss k c. goodSteps q ≡ true → goodSteps ss ≡ true) (λ t q g. refl) (λ n t g. refl)
+        (λ n t a q u us j c g h i.
+        good-append (stepsOf a (turnOf stored t a)) us ∙ rw (steps-good stored t a (good-first a q i), h (good-drop (takenBy (turnOf stored t a)) (a ∷ q) i)) refl)
+        n t q ss k c e
+
+    -- a walk has at most one step for each round, and one more for each asked one that it takes
+    pub few-steps : length ss ≤ n + k
+    few-steps =
+        every-walk (λ n t q ss k c. length ss ≤ n + k) (λ t q. omega arith) (λ n t. omega arith)
+        (λ n t a q u us j c g h.
+        omega (arith, h, length-append (stepsOf a (turnOf stored t a)) us, one-or-two a (turnOf stored t a))) n t q ss k c e

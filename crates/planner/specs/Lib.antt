@@ -1,3 +1,4 @@
 pub mod Plan
 pub mod Answers
 pub mod Demand
+pub mod Reported

@@ -63,7 +63,7 @@ module _ (member : ℕ → List ℕ) (ws : List ℕ) (a : Step) where
       (λ e. onward _ _ (sym (inner-layers ws)))
       (λ e. onward _ _ (sym (inner-layers ws)))
       (λ d e f h. onward _ _ (two-in (layers ws) ∙ sym inner-two))
-      (λ m e f. onward _ _ (one-in (layers ws) ∙ sym (inner-layers ws)))
+      (λ m w e f. onward _ _ (one-in (layers ws) ∙ sym (inner-layers ws)))
       (λ e f. onward _ _ (sym (inner-layers ws)))
       (λ e f. onward _ _ (sym (inner-layers ws)))
       (λ e f. member-outcome (layers (member (a .handle))))

@@ -1,17 +1,51 @@
--- The public contract allows one result: any two outcomes that it allows of the same arguments coincide in what they
--- are: where c fully dereferenced under n Pointers is c, that it is kept and that it is dereferenced are the same settling.
+-- The public contract allows one result: any two that it allows of the same arguments coincide.
 -- Assumes nothing.
-use mathlib.Core.Path.{_≡_, sym, _∙_}
-use contract.Lifetimes.{Lfts}
+use mathlib.Core.Path.{_≡_, refl, sym, _∙_}
+use mathlib.Core.Bool.{cond}
+use mathlib.Core.List.{List}
+use Prim.Native.Nat.{ℕ}
+use Rattle.layers.specs.Layers.{Layer, layers}
+use Rattle.layers.specs.Answer.{Answer, given, nothing, refused}
+use Rattle.layers.proofs.Single.{Single}
 use denote.Ref.{now}
-use denote.Triple.Clauses.{AtExit}
-use borrow.Fn.Kinds.{Dens, resT, endedOf}
-use Rattle.layers.specs.Layers.{layers}
-use Rattle.settlings.specs.Settling.{ofSettling}
+use Rattle.settlings.specs.Line as line
+use Rattle.settlings.specs.Line.{Line}
+use Rattle.settlings.specs.Settling.{Settled, lineOf, settle, lineBy, ofSettling, Settles}
+use Rattle.settlings.specs.declared.settlement.Settling.{Settling}
+use Rattle.settlings.specs.declared.settlement.Settling.the-variants as settling
 use Rattle.settlings.proofs.settlement.settle.Kinds.{ps, r}
 use Rattle.settlings.proofs.settlement.settle.Reads.{Post}
 
-pub settle-single : (κs : Lfts 2) (a : Dens κs ps) (x y : resT r κs .Denot) (s t : AtExit (endedOf 2 ps r) κs) →
-    Post κs a x s → Post κs a y t →
-    ofSettling x (layers (now (a .0))) (layers (now (a .1 .0))) (a .1 .1 .0) ≡ ofSettling y (layers (now (a .0))) (layers (now (a .1 .0))) (a .1 .1 .0)
-settle-single κs a x y s t p q = p ∙ sym q
+-- the outcome that a line and what it gives come from
+abbrev last : Answer Settled → Settling
+last (given s) = cond (s .address) settling.Addressed settling.Dereferenced
+last nothing = settling.Dereferenced
+last (refused k p) = settling.Refused k
+
+abbrev outcome : Line → Answer Settled → Settling
+outcome line.i a = settling.Identical
+outcome line.ii a = settling.Viewed
+outcome line.iii a = settling.Coerced
+outcome line.iv a = settling.SlicePointer
+outcome line.v a = settling.PointedTo
+outcome line.vi a = settling.AddressCoerced
+outcome line.vii a = last a
+
+module _ (c t : List Layer) (n : ℕ) where
+  is-outcome : (z : Settling) → z ≡ outcome (lineBy z) (ofSettling z c t n)
+  is-outcome settling.Identical = refl
+  is-outcome settling.Viewed = refl
+  is-outcome settling.Coerced = refl
+  is-outcome settling.SlicePointer = refl
+  is-outcome settling.PointedTo = refl
+  is-outcome settling.AddressCoerced = refl
+  is-outcome settling.Addressed = refl
+  is-outcome settling.Dereferenced = refl
+  is-outcome (settling.Refused k) = refl
+
+  settles-one : (z : Settling) → Settles z c t n → z ≡ outcome (lineOf c t n) (settle c t n)
+  settles-one z s = is-outcome z ∙ (λ j. outcome (s .0 j) (s .1 j))
+
+pub settle-single : Single 2 ps r Post
+settle-single κs a x y s t p q =
+    settles-one (layers (now (a .0))) (layers (now (a .1 .0))) (a .1 .1 .0) x p ∙ sym (settles-one (layers (now (a .0))) (layers (now (a .1 .0))) (a .1 .1 .0) y q)

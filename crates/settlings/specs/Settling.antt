@@ -14,6 +14,8 @@ use Rattle.equalities.specs.Equalities.{identical}
 use Rattle.coercions.specs.Coercions.{coerces, addressCoerces}
 use Rattle.steps.specs.StepKind as of-step
 use Rattle.steps.specs.Steps.{Step, step}
+use Rattle.settlings.specs.Line as line
+use Rattle.settlings.specs.Line.{Line}
 use Rattle.settlings.specs.declared.settlement.Settling.{Settling}
 use Rattle.settlings.specs.declared.settlement.Settling.the-variants as settling
 
@@ -51,31 +53,64 @@ settleOtherwise c n p =
     (cond (eqb (outer c) kind.slicePointer) (refused 10 0)
     (given (dereferenced c n p))))
 
-unfoldable pub settle : List Layer → List Layer → ℕ → Answer Settled
-settle c t n =
+-- Which line applies: the first of them.
+unfoldable pub lineOf : List Layer → List Layer → ℕ → Line
+lineOf c t n =
     -- "(i) n=0, t of depth 0, c identical to t."
-    cond (plainly t n && identical c t) (given (settled [] c false false))
+    cond (plainly t n && identical c t) line.i
     -- "(ii) same n and t, c a View of t: Autoview, type t."
-    (cond (plainly t n && eqb (outer c) kind.view && identical (inside c) t)
-    (given (settled (step of-step.autoview 0 0 0 ∷ []) t false false))
+    (cond (plainly t n && eqb (outer c) kind.view && identical (inside c) t) line.ii
     -- "(iii) same n and t, c coerces into t: coerced."
-    (cond (plainly t n && coerces c t) (given (settled [] c false true))
+    (cond (plainly t n && coerces c t) line.iii
     -- "(iv) n=1, c a SlicePointer identical to t."
-    (cond (eqb n 1 && eqb (outer c) kind.slicePointer && identical c t) (given (settled [] c false false))
+    (cond (eqb n 1 && eqb (outer c) kind.slicePointer && identical c t) line.iv
     -- "(v) n>0, t points to c: address."
-    (cond (ltb 0 n && eqb (outer t) kind.pointer && identical (inside t) c) (given (byAddress c false))
+    (cond (ltb 0 n && eqb (outer t) kind.pointer && identical (inside t) c) line.v
     -- "(vi) n>0, c address coerces into t: address, coerced."
-    (cond (ltb 0 n && addressCoerces c t) (given (byAddress c true))
-    (settleOtherwise c n (pointerDepth c)))))))
+    (cond (ltb 0 n && addressCoerces c t) line.vi
+    line.vii)))))
 
--- What each outcome of the code is, of the current type c, the target t and the depth n.
+-- What each line gives. "The reported type is c where no line says otherwise".
+unfoldable pub settleBy : Line → List Layer → List Layer → ℕ → Answer Settled
+settleBy line.i c t n = given (settled [] c false false)
+settleBy line.ii c t n = given (settled (step of-step.autoview 0 0 0 ∷ []) t false false)
+settleBy line.iii c t n = given (settled [] c false true)
+settleBy line.iv c t n = given (settled [] c false false)
+settleBy line.v c t n = given (byAddress c false)
+settleBy line.vi c t n = given (byAddress c true)
+settleBy line.vii c t n = settleOtherwise c n (pointerDepth c)
+
+unfoldable pub settle : List Layer → List Layer → ℕ → Answer Settled
+settle c t n = settleBy (lineOf c t n) c t n
+
+-- What each outcome of the code is: the line that it is by, and what it gives of the current type c, the target t and the
+-- depth n.
+abbrev pub lineBy : Settling → Line
+lineBy settling.Identical = line.i
+lineBy settling.Viewed = line.ii
+lineBy settling.Coerced = line.iii
+lineBy settling.SlicePointer = line.iv
+lineBy settling.PointedTo = line.v
+lineBy settling.AddressCoerced = line.vi
+lineBy settling.Addressed = line.vii
+lineBy settling.Dereferenced = line.vii
+lineBy (settling.Refused k) = line.vii
+
 abbrev pub ofSettling : Settling → List Layer → List Layer → ℕ → Answer Settled
-ofSettling (settling.Kept b) c t n = given (settled [] c false b)
-ofSettling settling.Viewed c t n = given (settled (step of-step.autoview 0 0 0 ∷ []) t false false)
-ofSettling (settling.Addressed b) c t n = given (byAddress c b)
+ofSettling settling.Identical c t n = settleBy line.i c t n
+ofSettling settling.Viewed c t n = settleBy line.ii c t n
+ofSettling settling.Coerced c t n = settleBy line.iii c t n
+ofSettling settling.SlicePointer c t n = settleBy line.iv c t n
+ofSettling settling.PointedTo c t n = settleBy line.v c t n
+ofSettling settling.AddressCoerced c t n = settleBy line.vi c t n
+ofSettling settling.Addressed c t n = given (byAddress c false)
 ofSettling settling.Dereferenced c t n = given (dereferenced c n (pointerDepth c))
 ofSettling (settling.Refused k) c t n = refused k 0
 
--- What the last line promises, whatever the target is.
+-- An outcome is the settling of c to t at the depth n: by the line that applies, and with what is given.
+abbrev pub Settles : Settling → List Layer → List Layer → ℕ → Type 0
+Settles r c t n = (lineBy r ≡ lineOf c t n) × (ofSettling r c t n ≡ settle c t n)
+
+-- An outcome is the last line's, whatever the target is.
 abbrev pub Otherwise : Settling → List Layer → ℕ → Type 0
-Otherwise r c n = (t : List Layer) → ofSettling r c t n ≡ settleOtherwise c n (pointerDepth c)
+Otherwise r c n = (lineBy r ≡ line.vii) × ((t : List Layer) → ofSettling r c t n ≡ settleOtherwise c n (pointerDepth c))

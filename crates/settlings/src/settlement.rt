@@ -9,17 +9,25 @@ ghost use mathlib.Core.Path.{_≡_};
 ghost use Rattle.layers.specs.Layers.{layers};
 ghost use Rattle.settlings.specs.Settling as rules;
 
-// How a walk is settled. The flag: whether the reported type is then coerced into the target.
+// How a walk is settled: the line that applies, and of the last line what it comes to.
 pub enum Settling {
-    // The current type, without a step.
-    Kept(bool),
-    // By Autoview, to the target.
+    // (i) The current type, without a step.
+    Identical,
+    // (ii) By Autoview, to the target.
     Viewed,
-    // The current type's address.
-    Addressed(bool),
-    // The current type fully dereferenced, under as many Pointers as the address depth.
+    // (iii) The current type, which coerces into the target.
+    Coerced,
+    // (iv) The current type, a SlicePointer.
+    SlicePointer,
+    // (v) The current type's address, which is the target.
+    PointedTo,
+    // (vi) The current type's address, which coerces into the target.
+    AddressCoerced,
+    // (vii) The current type's address.
+    Addressed,
+    // (vii) The current type fully dereferenced, under as many Pointers as the address depth.
     Dereferenced,
-    // A refusal's number.
+    // (vii) A refusal's number.
     Refused(u64),
 }
 
@@ -32,7 +40,7 @@ fn settle_otherwise(c: &[u64], n: u64) -> Settling
         if n - p >= 2 {
             return Settling::Refused(9);
         }
-        return Settling::Addressed(false);
+        return Settling::Addressed;
     }
     if outer(c) == Kind::SLICE_POINTER {
         return Settling::Refused(10);
@@ -42,14 +50,14 @@ fn settle_otherwise(c: &[u64], n: u64) -> Settling
 
 // Settles the current type c to the target t at the address depth n, by the first line that applies.
 pub fn settle(c: &[u64], t: &[u64], n: u64) -> Settling
-    ensures { λ r. ⌜ rules.ofSettling r (layers (now (c .entry))) (layers (now (t .entry))) n ≡ rules.settle (layers (now (c .entry))) (layers (now (t .entry))) n ⌝ }
+    ensures { λ r. ⌜ rules.Settles r (layers (now (c .entry))) (layers (now (t .entry))) n ⌝ }
 {
     let plainly = (n == 0) & (depth(t) == 0);
     let k = outer(c);
     let same = identical(c, t);
     // (i)
     if plainly & same {
-        return Settling::Kept(false);
+        return Settling::Identical;
     }
     // (ii)
     if plainly & (k == Kind::VIEW) & identical(inner(c), t) {
@@ -57,19 +65,19 @@ pub fn settle(c: &[u64], t: &[u64], n: u64) -> Settling
     }
     // (iii)
     if plainly & can_coerce_into(c, t) {
-        return Settling::Kept(true);
+        return Settling::Coerced;
     }
     // (iv)
     if (n == 1) & (k == Kind::SLICE_POINTER) & same {
-        return Settling::Kept(false);
+        return Settling::SlicePointer;
     }
     // (v)
     if (n > 0) & (outer(t) == Kind::POINTER) & identical(inner(t), c) {
-        return Settling::Addressed(false);
+        return Settling::PointedTo;
     }
     // (vi)
     if (n > 0) & can_coerce_address_into(c, t) {
-        return Settling::Addressed(true);
+        return Settling::AddressCoerced;
     }
     // (vii)
     settle_otherwise(c, n)

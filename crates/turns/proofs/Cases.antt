@@ -4,7 +4,7 @@ use mathlib.Core.Path.{_≡_, refl}
 use mathlib.Core.Bool.{Bool, true, false, cond, _&&_, _||_}
 use mathlib.Core.Logic.{_⊎_, inl, inr, ⊎-elim}
 use Prim.Native.Nat.{ℕ}
-use lib.Dec.{eqb}
+use lib.Dec.{eqb, leb}
 use borrow.Author.Tests.{eqb-true}
 use Rattle.kinds.specs.Kind as kind
 use Rattle.layers.specs.Layers.{isArray, isReference}
@@ -31,7 +31,7 @@ module _ (k l asked mark : ℕ) (P : Turn → Type 0)
     (autoderef : k ≡ kind.pointer → P (Auto of-step.autoderef))
     (autoview : k ≡ kind.view → P (Auto of-step.autoview))
     (through : isArray k ≡ false → isReference k ≡ true → l ≡ kind.arraylike → asked ≡ of-step.element → P (Element mark 2))
-    (element : (m : ℕ) → isArray k ≡ true → asked ≡ of-step.element → P (Element m 1))
+    (element : (m : ℕ) → leb m 2 ≡ true → isArray k ≡ true → asked ≡ of-step.element → P (Element m 1))
     (slice : k ≡ kind.slice → asked ≡ of-step.element → P (Desliced of-step.byView))
     (slice-pointer : k ≡ kind.slicePointer → asked ≡ of-step.element → P (Desliced of-step.byPointer))
     (member : (eqb k kind.struct || eqb k kind.word) ≡ true → asked ≡ of-step.member → P Member) where
@@ -54,7 +54,7 @@ module _ (k l asked mark : ℕ) (P : Turn → Type 0)
 
     by-endless : (f : Bool) → (eqb k kind.endlessArray || eqb k kind.arraylike) ≡ f →
         P (cond f (Element of-step.yes 1) (cond (eqb k kind.slice) (Desliced of-step.byView) (cond (eqb k kind.slicePointer) (Desliced of-step.byPointer) Stuck)))
-    by-endless true f = element of-step.yes (tells isArray true k kind.endlessArray kind.arraylike refl refl f) e
+    by-endless true f = element of-step.yes refl (tells isArray true k kind.endlessArray kind.arraylike refl refl f) e
     by-endless false f = by-slice (eqb k kind.slice) refl
 
     by-length : (f : Bool) → (eqb k kind.array || eqb k kind.arrayWithNamedLength) ≡ f →
@@ -62,7 +62,7 @@ module _ (k l asked mark : ℕ) (P : Turn → Type 0)
         (cond f (Element of-step.no 1)
         (cond (eqb k kind.endlessArray || eqb k kind.arraylike) (Element of-step.yes 1)
         (cond (eqb k kind.slice) (Desliced of-step.byView) (cond (eqb k kind.slicePointer) (Desliced of-step.byPointer) Stuck))))
-    by-length true f = element of-step.no (tells isArray true k kind.array kind.arrayWithNamedLength refl refl f) e
+    by-length true f = element of-step.no refl (tells isArray true k kind.array kind.arrayWithNamedLength refl refl f) e
     by-length false f = by-endless (eqb k kind.endlessArray || eqb k kind.arraylike) refl
 
   by-member : (f g : Bool) → eqb asked of-step.member ≡ f → (eqb k kind.struct || eqb k kind.word) ≡ g → P (cond f (cond g Member Stuck) Stuck)

@@ -1,0 +1,155 @@
+-- What the third demand rules out: each plan here is one that a wrong planner would give, and none meets it. Each field of
+-- `Demand` and of `Hidden` is what refutes one of them, so that none can be weakened without this file failing.
+-- Assumes nothing.
+use mathlib.Core.Path.{_≡_, refl, sym, ap, _∙_}
+use mathlib.Core.Bool.{Bool, true, false, true≢false, false≢true}
+use mathlib.Core.Logic.{⊎-elim}
+use mathlib.Core.List.{List, [], _∷_}
+use Prim.Native.Nat.{ℕ, _+_, _≤_}
+use native.Mathlib.Omega.{arith}
+use lib.ListN.{length, drop, length-drop}
+use Rattle.kinds.specs.Kind as kind
+use Rattle.layers.specs.Layers.{Layer, outer, inside}
+use Rattle.layers.specs.Answer.{given}
+use Rattle.parts.specs.Parts.{references}
+use Rattle.sizes.specs.Depth.{pointerDepth}
+use Rattle.equalities.specs.Equalities.{identical}
+use Rattle.coercions.specs.Coercions.{coerces, addressCoerces}
+use Rattle.steps.specs.StepKind as of-step
+use Rattle.steps.specs.Steps.{Step, step, goodStep, goodSteps}
+use Rattle.settlings.specs.Line as line
+use Rattle.settlings.specs.Line.{Line}
+use Rattle.settlings.specs.Settling.{Settled, settleOtherwise, lineOf}
+use Rattle.settlings.proofs.Lines.{seventh}
+use Rattle.walker.specs.Walker.{Where, at, stuck, Stored, absent, act, walker, arrives}
+use Rattle.reports.specs.Plan.{Plan}
+use Rattle.planner.specs.Demand.{asked, rounds, Hidden, Demand}
+use Rattle.planner.specs.Reported.{Reported}
+use Rattle.planner.proofs.Table.{leaf, of, int32, array3, asked-element}
+
+-- no table: no plan here has a Member
+abbrev none : ℕ → Stored
+none id = absent
+
+abbrev plan : List Step → ℕ → List Layer → Bool → Plan
+plan ss k t a = record { steps = ss; taken = k; type = t; address = a; coerced = false }
+
+abbrev element : ℕ → ℕ → Step
+element handle number = step of-step.element handle of-step.no number
+
+abbrev autoderef : Step
+autoderef = step of-step.autoderef 0 0 0
+
+abbrev firstHandle : List Step → ℕ
+firstHandle [] = 0
+firstHandle (s ∷ ss) = s .handle
+
+abbrev isLast : Line → Bool
+isLast line.i = false
+isLast line.ii = false
+isLast line.iii = false
+isLast line.iv = false
+isLast line.v = false
+isLast line.vi = false
+isLast line.vii = true
+
+abbrev typeAt : Where → List Layer
+typeAt (at t) = t
+typeAt stuck = []
+
+-- Array 3 of Int32, one Element, one round: a plan without steps that took none of one and reports the Array
+pub dropped : Demand none array3 (asked-element 7 ∷ []) int32 0 1 (plan [] 0 array3 false) → ⊥
+unfolding rounds
+dropped d = ⊎-elim (λ (e : 0 ≡ 1). absurd (omega (arith, e))) (λ (h : 1 ≤ 0). absurd (omega (arith, h))) (d .all)
+
+-- the same question: the right step, and a count that is made up
+pub made-up : Demand none array3 (asked-element 7 ∷ []) int32 0 1 (plan (element 7 0 ∷ []) 7 int32 false) → ⊥
+made-up d = let h : 7 ≤ 1 = d .few in absurd (omega (arith, h))
+
+-- the same question: the Element of another argument
+pub other-element : Demand none array3 (asked-element 7 ∷ []) int32 0 1 (plan (element 8 0 ∷ []) 1 int32 false) → ⊥
+unfolding asked
+other-element d = absurd (omega (arith, ap firstHandle (d .order)))
+
+-- the same question: an Element whose unused number is not 0
+pub unused-number : Demand none array3 (asked-element 7 ∷ []) int32 0 1 (plan (element 7 5 ∷ []) 1 int32 false) → ⊥
+unfolding goodStep goodSteps
+unused-number d = false≢true (d .good)
+
+-- Pointer to Pointer to Int32, target Int32: a planner that works its first step and then copies the reported type
+pub first-step-then-copied : Demand none (of kind.pointer (of kind.pointer int32)) [] int32 0 64 (plan (autoderef ∷ []) 0 int32 false) → ⊥
+unfolding walker arrives act outer inside
+first-step-then-copied d =
+    ⊎-elim (λ (e : at (of kind.pointer int32) ≡ at int32). absurd (omega (arith, ap (λ (w : Where). length (typeAt w)) e)))
+    (λ h. absurd (omega (arith, ap (λ (w : Where). outer (typeAt w)) (h .ends), h .view))) (d .there)
+
+-- where the walker is at one type, it is not at another of another length
+apart : (a b : List Layer) → (length a ≡ length b → ⊥) → at a ≡ at b → ⊥
+apart a b h e = h (ap (λ (w : Where). length (typeAt w)) e)
+
+-- Int32: a step that cannot be taken
+pub cannot-be-taken : Demand none int32 [] int32 0 64 (plan (autoderef ∷ []) 0 int32 false) → ⊥
+unfolding walker arrives act outer
+cannot-be-taken d =
+    ⊎-elim (λ (e : stuck ≡ at int32). absurd (omega (arith, ap (λ (w : Where). length (typeAt w)) e)))
+    (λ h. absurd (omega (arith, ap (λ (w : Where). outer (typeAt w)) (h .ends), h .view))) (d .there)
+
+-- View of Int32, target Int32: a plan that stops one step early; line (ii) applies, so it is no exception
+pub one-step-early : Demand none (of kind.view int32) [] int32 0 64 (plan [] 0 int32 false) → ⊥
+unfolding walker arrives lineOf outer inside pointerDepth identical
+one-step-early d =
+    ⊎-elim (apart (of kind.view int32) int32 (λ e. absurd (omega (arith, e))))
+    (λ h. false≢true (ap (λ (w : Where). isLast (lineOf (typeAt w) int32 0)) (h .ends) ∙ ap isLast (h .last))) (d .there)
+
+-- the same at depth 1, where there is no exception
+pub early-at-depth-1 : Demand none (of kind.view int32) [] (of kind.pointer int32) 1 64 (plan [] 0 int32 false) → ⊥
+unfolding walker arrives
+early-at-depth-1 d =
+    ⊎-elim (apart (of kind.view int32) int32 (λ e. absurd (omega (arith, e)))) (λ h. absurd (omega (arith, h .level))) (d .there)
+
+-- View of Pointer to Int32, target Int32, of which the exception holds: a plan that reports the Pointer
+pub half-dereferenced : Demand none (of kind.view (of kind.pointer int32)) [] int32 0 64 (plan [] 0 (of kind.pointer int32) false) → ⊥
+unfolding walker arrives references
+half-dereferenced d =
+    ⊎-elim (apart (of kind.view (of kind.pointer int32)) (of kind.pointer int32) (λ e. absurd (omega (arith, e))))
+    (λ h.
+    let e : 2 ≡ 1 = ap length (h .type) ∙ ap (λ (w : Where). length (drop (references (typeAt w)) (typeAt w))) (sym (h .ends)) in
+    absurd (omega (arith, e))) (d .there)
+
+-- the same question: the right type, and an address that nobody takes
+pub address-in-name : Demand none (of kind.view (of kind.pointer int32)) [] int32 0 64 (plan [] 0 int32 true) → ⊥
+unfolding walker arrives
+address-in-name d =
+    ⊎-elim (apart (of kind.pointer (of kind.view (of kind.pointer int32))) int32 (λ e. absurd (omega (arith, e))))
+    (λ h. true≢false (h .plain)) (d .there)
+
+-- what line (vii) gives is not coerced
+last-not-coerced : (c : List Layer) (n : ℕ) (s : Settled) → settleOtherwise c n (pointerDepth c) ≡ given s → s .coerced ≡ false
+last-not-coerced c n = seventh c n (λ s. s .coerced ≡ false) (λ e. refl) (λ few slice. refl)
+
+-- Int32 for the target Int64: a plan that says that it is coerced
+pub coerced-in-name : Reported none int32 (leaf kind.int64) 0 (record { steps = []; taken = 0; type = int32; address = false; coerced = true }) → ⊥
+unfolding walker coerces addressCoerces outer
+coerced-in-name r =
+    ⊎-elim (λ h. true≢false (h .1))
+    (λ r.
+    ⊎-elim
+    (λ h.
+    ⊎-elim (λ i. false≢true (ap (λ (w : Where). coerces (typeAt w) (leaf kind.int64)) (h .ends) ∙ i .0))
+    (λ i. false≢true (ap (λ (w : Where). addressCoerces (typeAt w) (leaf kind.int64)) (h .ends) ∙ i .0)) (h .into))
+    (λ h. true≢false (last-not-coerced (h .c) 0 _ (h .gives))) r) r
+
+-- the exception shows: of such a plan the walker does not arrive at the reported type
+module _ (stored : ℕ → Stored) (known target : List Layer) (depth : ℕ) (p : Plan) where
+  shorter : (c : List Layer) → outer c ≡ kind.view → length (drop (references c) c) ≡ length c → ⊥
+  unfolding outer references
+  shorter [] v e = absurd (omega (arith, v))
+  shorter (x ∷ a) v e =
+      let r : references (x ∷ a) ≡ references a + 1 = rw v in
+      absurd (omega (arith, r, e, length-drop (references (x ∷ a)) (x ∷ a)))
+
+  pub exception-shows : Hidden stored known target depth p → arrives stored (p .steps) (p .address) known ≡ at (p .type) → ⊥
+  unfolding arrives
+  exception-shows h e =
+      let there : at (h .c) ≡ at (p .type) = rw (h .ends, h .plain) at e in
+      shorter (h .c) (h .view) (ap length (sym (h .type)) ∙ ap (λ (w : Where). length (typeAt w)) (sym there))

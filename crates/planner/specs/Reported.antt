@@ -1,0 +1,42 @@
+-- What a plan reports: the target, or a type that is then coerced into it, or what line (vii) gives.
+use mathlib.Core.Path.{_≡_}
+use mathlib.Core.Bool.{true, false}
+use mathlib.Core.Logic.{_⊎_}
+use mathlib.Core.List.{List, _∷_, _++_}
+use Prim.Native.Nat.{ℕ}
+use Rattle.layers.specs.Layers.{Layer}
+use Rattle.layers.specs.Answer.{given}
+use Rattle.sizes.specs.Depth.{pointerDepth}
+use Rattle.coercions.specs.Coercions.{coerces, addressCoerces}
+use Rattle.steps.specs.Steps.{Step}
+use Rattle.settlings.specs.Line as line
+use Rattle.settlings.specs.Settling.{pointer, settled, settleOtherwise, lineOf}
+use Rattle.walker.specs.Walker.{at, Stored, walker}
+use Rattle.reports.specs.Plan.{Plan}
+
+-- By the lines (i), (ii), (iv) and (v) the reported type is the target, and the plan is not coerced.
+abbrev pub Target : List Layer → Plan → Type 0
+Target target plan = (plan .type ≡ target) × (plan .coerced ≡ false)
+
+-- "c coerces into t: coerced." "c address coerces into t: address, coerced." The type that is reached, or its address, is
+-- reported.
+pub record Coerced (stored : ℕ → Stored) (known target : List Layer) (plan : Plan) : Type 0 where
+  pub c : List Layer
+  pub ends : walker stored (plan .steps) known ≡ at c
+  pub coerced : plan .coerced ≡ true
+  pub into : ((coerces c target ≡ true) × (plan .address ≡ false) × (plan .type ≡ c))
+      ⊎ ((addressCoerces c target ≡ true) × (plan .address ≡ true) × (plan .type ≡ pointer ∷ c))
+
+-- The walk ended on c, line (vii) applied there, and the plan's further steps, its type and its flags are what it gives.
+pub record Last (stored : ℕ → Stored) (known target : List Layer) (depth : ℕ) (plan : Plan) : Type 0 where
+  pub walked : List Step
+  pub further : List Step
+  pub steps : plan .steps ≡ walked ++ further
+  pub c : List Layer
+  pub ends : walker stored walked known ≡ at c
+  pub applies : lineOf c target depth ≡ line.vii
+  pub gives : settleOtherwise c depth (pointerDepth c) ≡ given (settled further (plan .type) (plan .address) (plan .coerced))
+
+abbrev pub Reported : (ℕ → Stored) → List Layer → List Layer → ℕ → Plan → Type 0
+Reported stored known target depth plan =
+    Target target plan ⊎ (Coerced stored known target plan ⊎ Last stored known target depth plan)
