@@ -1,8 +1,8 @@
 -- The third demand holds of every plan that is given; and what such a plan reports.
 -- Assumes nothing.
-use mathlib.Core.Path.{_≡_, refl, sym, ap, _∙_}
-use mathlib.Core.Bool.{Bool, true, false, false≢true, _&&_}
-use mathlib.Core.Logic.{_⊎_, inl, inr, ⊎-elim}
+use mathlib.Core.Path.{_≡_, refl, sym, _∙_}
+use mathlib.Core.Bool.{Bool, true, false≢true}
+use mathlib.Core.Logic.{inl, inr, ⊎-elim}
 use mathlib.Core.List.{List, [], _∷_, _++_, append-nil}
 use Prim.Native.Nat.{ℕ, _+_, _≤_}
 use native.Mathlib.Omega.{arith}
@@ -15,15 +15,12 @@ use Rattle.layers.specs.Answer.{given}
 use Rattle.layers.proofs.Decide.{both}
 use Rattle.checks.specs.Check.{goodLayer}
 use Rattle.checks.proofs.Accepted.{goodLayers}
-use Rattle.sizes.specs.Depth.{pointerDepth}
 use Rattle.forms.specs.Formed.{wellFormed}
 use Rattle.equalities.specs.Equalities.{identical}
 use Rattle.equalities.proofs.Theorems.{identical-equal}
-use Rattle.coercions.specs.Coercions.{coerces, addressCoerces}
 use Rattle.steps.specs.Steps.{Step, goodSteps}
 use Rattle.steps.proofs.Words.{good-append}
-use Rattle.settlings.specs.Line as line
-use Rattle.settlings.specs.Settling.{Settled, pointer, settleOtherwise, lineOf, settle}
+use Rattle.settlings.specs.Settling.{Settled, pointer, settle}
 use Rattle.settlings.proofs.Lines.{lines}
 use Rattle.walker.specs.Walker.{at, Stored, typed, walker, arrives}
 use Rattle.rounds.specs.Walk.{ended, walk}
@@ -31,7 +28,7 @@ use Rattle.rounds.proofs.Finishing.{depth-few}
 use Rattle.reports.specs.Plan.{Plan}
 use Rattle.planner.specs.Plan.{planOf}
 use Rattle.planner.specs.Demand.{rounds, Hidden, Demand}
-use Rattle.planner.specs.Reported.{Coerced, Last, Reported}
+use Rattle.planner.specs.Reported.{Reported}
 use Rattle.planner.proofs.Walks.{asked-append, rounds-append, walker-append, walks, in-order, all-taken, no-more, all-good, few-steps}
 use Rattle.planner.proofs.Sound.{Passing, Sound, walk-sound}
 use Rattle.planner.proofs.Settles.{Exception, exact, at-is, settles, asks-nothing, adds-good, adds-few}

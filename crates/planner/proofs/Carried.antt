@@ -95,14 +95,14 @@ module _ (table : List Symbol) (store : List ℕ) (id : ℕ) (ok : inOrder table
   type-is [] = refl
   type-is (x ∷ l) = refl
 
-  members-pass : (t : List Layer) → members table store id ≡ typed t → Passing t
+  pub members-pass : (t : List Layer) → members table store id ≡ typed t → Passing t
   unfolding members
   members-pass t e =
       subst Passing (type-is (layers (memberWords table store id)) ∙ ap typeIn e)
       (record { good = member-good; few = whole-few (memberWords table store id) (member-whole table store id ok) })
 
 -- what was written is read again
-front : (ws b : List ℕ) (n : ℕ) → length ws ≡ n → length ws ≤ length b → take n (written ws b) ≡ ws
+pub front : (ws b : List ℕ) (n : ℕ) → length ws ≡ n → length ws ≤ length b → take n (written ws b) ≡ ws
 front ws b n e h = ap (take n) (fits ws b h) ∙ take-at ws (drop (length ws) b) n e
 
 read-back : (p : Plan) (b c : List ℕ) → length (stepWords (p .steps)) ≤ length b → length (spelled (p .type)) ≤ length c →
@@ -203,7 +203,7 @@ module _ (table : List Symbol) (store known asked target : List ℕ) (depth limi
         type-fits = there .2;
       }
 
-  known-passing : {room wide : ℕ} {p : Plan} → Given room wide p → Passing (layers known)
+  pub known-passing : {room wide : ℕ} {p : Plan} → Given room wide p → Passing (layers known)
   known-passing g =
       record {
         good = accepted-good known (length known / 3) (g .known-passes);
@@ -222,13 +222,37 @@ module _ (table : List Symbol) (store known asked target : List ℕ) (depth limi
     behind : Given (length b) (length c) (found .0)
     behind = by-answer (length b) (length c) (found .0) (found .1)
 
+    report-is : r ≡ told (given (found .0))
+    report-is = h .0 ∙ ap told (found .1)
+
+    steps-are : b′ ≡ stepsOver (given (found .0)) b
+    steps-are = h .1 ∙ ap (λ (a : Answer Plan). stepsOver a b) (found .1)
+
+    type-is-over : c′ ≡ typeOver (given (found .0)) c
+    type-is-over = h .2 ∙ ap (λ (a : Answer Plan). typeOver a c) (found .1)
+
     -- the plan that stands in the report and in the outputs is the one that the rules give
     read : planRead r b′ c′ ≡ found .0
-    read =
-        let er : r ≡ told (given (found .0)) = h .0 ∙ ap told (found .1) in
-        let eb : b′ ≡ stepsOver (given (found .0)) b = h .1 ∙ ap (λ (a : Answer Plan). stepsOver a b) (found .1) in
-        let ec : c′ ≡ typeOver (given (found .0)) c = h .2 ∙ ap (λ (a : Answer Plan). typeOver a c) (found .1) in
-        (λ j. planRead (er j) (eb j) (ec j)) ∙ read-back (found .0) b c (behind .steps-fit) (behind .type-fits)
+    read = (λ j. planRead (report-is j) (steps-are j) (type-is-over j)) ∙ read-back (found .0) b c (behind .steps-fit) (behind .type-fits)
+
+    -- its words are the outputs' first ones
+    pub steps-read : take (4 * r .steps) b′ ≡ stepWords (planRead r b′ c′ .steps)
+    unfolding told stepsOver
+    steps-read =
+        (λ j. take (4 * report-is j .steps) (steps-are j))
+        ∙ front (stepWords (found .0 .steps)) b (4 * length (found .0 .steps)) (words-length (found .0 .steps)) (behind .steps-fit)
+        ∙ ap (λ (p : Plan). stepWords (p .steps)) (sym read)
+
+    pub type-read : take (3 * r .layers) c′ ≡ spelled (planRead r b′ c′ .type)
+    unfolding told typeOver
+    type-read =
+        (λ j. take (3 * report-is j .layers) (type-is-over j))
+        ∙ front (spelled (found .0 .type)) c (3 * length (found .0 .type)) (spelled-length (found .0 .type)) (behind .type-fits)
+        ∙ ap (λ (p : Plan). spelled (p .type)) (sym read)
+
+    pub layers-read : r .layers ≡ length (planRead r b′ c′ .type)
+    unfolding told
+    layers-read = ap (λ (x : Report). x .layers) report-is ∙ ap (λ (p : Plan). length (p .type)) (sym read)
 
     pub is-given : Given (length b) (length c) (planRead r b′ c′)
     is-given = subst (Given (length b) (length c)) (sym read) behind

@@ -4,7 +4,7 @@
 use mathlib.Core.Path.{_≡_, refl, sym, ap, _∙_}
 use mathlib.Core.Bool.{Bool, true, false, true≢false, false≢true}
 use mathlib.Core.Logic.{⊎-elim}
-use mathlib.Core.List.{List, [], _∷_}
+use mathlib.Core.List.{List, [], _∷_, _++_}
 use Prim.Native.Nat.{ℕ, _+_, _≤_}
 use native.Mathlib.Omega.{arith}
 use lib.ListN.{length, drop, length-drop}
@@ -13,7 +13,7 @@ use Rattle.layers.specs.Layers.{Layer, outer, inside}
 use Rattle.layers.specs.Answer.{given}
 use Rattle.parts.specs.Parts.{references}
 use Rattle.sizes.specs.Depth.{pointerDepth}
-use Rattle.equalities.specs.Equalities.{identical}
+use Rattle.equalities.specs.Equalities.{identical, plain, equals}
 use Rattle.coercions.specs.Coercions.{coerces, addressCoerces}
 use Rattle.steps.specs.StepKind as of-step
 use Rattle.steps.specs.Steps.{Step, step, goodStep, goodSteps}
@@ -138,6 +138,21 @@ coerced-in-name r =
     ⊎-elim (λ i. false≢true (ap (λ (w : Where). coerces (typeAt w) (leaf kind.int64)) (h .ends) ∙ i .0))
     (λ i. false≢true (ap (λ (w : Where). addressCoerces (typeAt w) (leaf kind.int64)) (h .ends) ∙ i .0)) (h .into))
     (λ h. true≢false (last-not-coerced (h .c) 0 _ (h .gives))) r) r
+
+none-before : (ss us : List Step) → [] ≡ ss ++ us → ss ≡ []
+none-before [] us e = refl
+none-before (s ∷ ss) us e = absurd (omega (arith, ap length e))
+
+-- Array 3 of Int32 for the target Slice of Int32, which is coerced: a plan that does not say so
+pub coercion-untold : Reported none array3 (of kind.slice int32) 0 (plan [] 0 array3 false) → ⊥
+unfolding walker lineOf outer inside pointerDepth identical coerces equals plain
+coercion-untold r =
+    ⊎-elim (λ h. absurd (omega (arith, ap outer (h .0))))
+    (λ r.
+    ⊎-elim (λ h. false≢true (h .coerced))
+    (λ h.
+    let ends : at array3 ≡ at (h .c) = rw (none-before (h .walked) (h .further) (h .steps)) at (h .ends) in
+    false≢true (ap (λ (w : Where). isLast (lineOf (typeAt w) (of kind.slice int32) 0)) ends ∙ ap isLast (h .applies))) r) r
 
 -- the exception shows: of such a plan the walker does not arrive at the reported type
 module _ (stored : ℕ → Stored) (known target : List Layer) (depth : ℕ) (p : Plan) where

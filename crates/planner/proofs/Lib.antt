@@ -12,3 +12,4 @@ pub mod Single
 pub mod Table
 pub mod Surprises
 pub mod Excluded
+pub mod Accepts

@@ -14,7 +14,9 @@ use Rattle.coercions.specs.Coercions.{coerces, addressCoerces, viewAutoderefs, 
 use Rattle.turns.specs.Turns.{turn}
 use Rattle.settlings.specs.Settling.{settleOtherwise, lineOf, settleBy, settle}
 use Rattle.rounds.specs.Walk.{walk}
+use Rattle.walker.specs.Walker.{absent, walker}
 use Rattle.planner.specs.Plan.{planOf}
+use Rattle.planner.specs.Demand.{Hidden}
 use Rattle.planner.proofs.Table.{leaf, of, int32, plan, planned}
 
 pub record Surprises : Type 0 where
@@ -23,6 +25,8 @@ pub record Surprises : Type 0 where
   pub pointer-to-void : wellFormed (of kind.pointer (leaf kind.void)) ≡ false
   -- the third demand's exception can hide more than one step: no step is planned, and a View and a Pointer are gone
   pub two-hidden : planned (of kind.view (of kind.pointer int32)) [] (of kind.pointer int32) 0 64 ≡ plan [] 0 int32 false false
+  -- it can hide them and report the target itself: comparing the reported type with the target then tells nothing
+  pub hidden-and-equal : planned (of kind.view (of kind.pointer int32)) [] int32 0 64 ≡ plan [] 0 int32 false false
   -- so a type that autoderefs into the target need not be planned to arrive there
   pub autoderefs-there : autoderefs (of kind.view (of kind.pointer int32)) (of kind.pointer int32) ≡ true
   -- a SlicePointer at depth 0 has no settling, not even for itself
@@ -34,6 +38,14 @@ surprises = record {
   void-at-depth-1 = refl;
   pointer-to-void = refl;
   two-hidden = refl;
+  hidden-and-equal = refl;
   autoderefs-there = refl;
   slice-pointer-for-itself = refl;
 }
+
+-- of this plan the exception holds
+pub the-exception : Hidden (λ id. absent) (of kind.view (of kind.pointer int32)) int32 0
+    (record { steps = []; taken = 0; type = int32; address = false; coerced = false })
+unfolding walker lineOf outer inside references pointerDepth identical plain equals coerces addressCoerces
+the-exception =
+    record { c = of kind.view (of kind.pointer int32); ends = refl; level = refl; view = refl; last = refl; type = refl; plain = refl }

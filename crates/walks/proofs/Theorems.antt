@@ -33,6 +33,16 @@ gives (refused n p) = false
 not-refused : (t : List Layer) (n q : ℕ) → given t ≡ refused n q → ⊥
 not-refused t n q e = false≢true (sym (ap gives e))
 
+abbrev stays : Where → Bool
+stays (at t) = true
+stays stuck = false
+
+not-stuck : (t : List Layer) → stuck ≡ at t → ⊥
+not-stuck t e = false≢true (ap stays e)
+
+at-is : (t u : List Layer) → at t ≡ at u → t ≡ u
+at-is t u e = cc
+
 place-is : (n m p q : ℕ) (x : Answer (List Layer)) → x ≡ refused n p → x ≡ refused m q → q ≡ p
 place-is n m p q x d e = cc
 
@@ -101,3 +111,15 @@ module _ (known ws store : List ℕ) (address : Bool) (table : List Symbol) (u :
   pub walk-arrives : walkTo known ws address table store ≡ given u → arrives stored (steps ws) address (layers known) ≡ at u
   unfolding walkTo
   walk-arrives e = by-order (after (stepsAnswer 128 ws) _ (after (checkOf known) _ e))
+
+  -- and where it arrives is what is given, of a type, steps and a table that pass their checks
+  to-address : (w : Answer (List Layer)) → then stored (whereOf w) (λ v. at (cond address (layer kind.pointer 0 0 ∷ v) v)) ≡ at u → andAddress address w ≡ given u
+  to-address (given t) e = ap given (at-is (addressed address t) u e)
+  to-address nothing e = absurd (not-stuck u e)
+  to-address (refused n p) e = absurd (not-stuck u e)
+
+  pub arrives-walk : (i j : ℕ) → checkOf known ≡ given i → stepsAnswer 128 ws ≡ given j → inOrder table store ≡ true →
+      arrives stored (steps ws) address (layers known) ≡ at u → walkTo known ws address table store ≡ given u
+  unfolding walkTo walkOrdered walkFrom arrives
+  arrives-walk i j e f o a =
+      rw (e, f, o) (to-address (walkedFrom stored 0 (steps ws) (layers known)) (rw (as-the-walker stored (steps ws) (layers known) 0) at a))
