@@ -1,3 +1,4 @@
 -- What the proofs of several functions use.
+pub mod Made
 pub mod Told
 pub mod Single
