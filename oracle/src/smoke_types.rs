@@ -40,7 +40,8 @@ pub fn every_function(smoke: &mut Smoke) {
     roles(&mut looks);
     parts(&mut looks);
     numbers(&mut looks);
-    pairs(&mut looks);
+    relations(&mut looks);
+    coercions(&mut looks);
     strings(&mut looks);
     let Looks { smoke, called } = looks;
     let all = functions();
@@ -131,15 +132,15 @@ fn numbers(looks: &mut Looks) {
     look!(looks, ValueType::max_u128(&both), u64::MAX as u128);
 }
 
-/// The left one against the right one, and the other way round.
-fn pairs(looks: &mut Looks) {
+/// Of each relation two types that stand so to each other and two that do not.
+fn relations(looks: &mut Looks) {
     let (char8, uint8) = (of(&CHAR8), of(&UINT8));
-    let (array, slice) = (of(&[[14, 0, 3], CHAR8].concat()), in_layer(16, &uint8));
-    let (arraylike, slice_pointer) = (in_layer(19, &char8), in_layer(17, &char8));
+    let array = of(&[[14, 0, 3], CHAR8].concat());
+    let arraylike = in_layer(19, &char8);
     look!(looks, ask::is_alias_of(&char8, &uint8), true);
     look!(looks, ask::is_alias_of(&uint8, &char8), false);
     look!(looks, ask::equals(&char8, &uint8), true);
-    look!(looks, ask::equals(&array, &slice), false);
+    look!(looks, ask::equals(&array, &arraylike), false);
     look!(looks, ask::is_like(&array, &arraylike), true);
     look!(looks, ask::is_like(&arraylike, &array), false);
     look!(
@@ -162,6 +163,12 @@ fn pairs(looks: &mut Looks) {
         ValueType::can_be_concretization_of(&arraylike, &array),
         false
     );
+}
+
+fn coercions(looks: &mut Looks) {
+    let (char8, uint8) = (of(&CHAR8), of(&UINT8));
+    let (array, slice) = (of(&[[14, 0, 3], CHAR8].concat()), in_layer(16, &uint8));
+    let slice_pointer = in_layer(17, &char8);
     look!(looks, ValueType::can_coerce_into(&array, &slice), true);
     look!(looks, ValueType::can_coerce_into(&slice, &array), false);
     look!(
