@@ -1,13 +1,26 @@
-/* A host asks the proved rules a few questions.
+/* A host asks the proved rules a few questions, keeps two symbols, and makes, walks and compares plans.
  *
- *   rt staticlib trestlejay
- *   cc -I include examples/host.c target/staticlib/libtrestlejay.a -o host && ./host
+ *   cc -I include examples/host.c "$(./archive)/libtrestlejay.a" -o host && ./host
+ *
+ * The same text is C11 and C++17.
  */
 #include "trestlejay.h"
 #include <inttypes.h>
 #include <stdio.h>
+#include <string.h>
 
 #define WORDS(t) (t), sizeof(t) / sizeof *(t)
+
+static const uint64_t slice[] = {TJ_SLICE, 0, 0, TJ_CHAR8, 0, 0};
+static const uint64_t array[] = {TJ_ARRAY, 0, 3, TJ_CHAR8, 0, 0};
+static const uint64_t arraylike[] = {TJ_ARRAYLIKE, 0, 0, TJ_CHAR8, 0, 0};
+static const uint64_t view[] = {TJ_VIEW, 0, 0, TJ_POINTER, 0, 0, TJ_INT32, 0, 0};
+static const uint64_t int32[] = {TJ_INT32, 0, 0};
+static const uint64_t char8[] = {TJ_CHAR8, 0, 0};
+
+/* A table of two free records, with its store. */
+static tj_symbol table[2];
+static uint64_t store[2 * TJ_SLOT_WORDS];
 
 static void say(const char *question, tj_answer a)
 {
@@ -17,18 +30,11 @@ static void say(const char *question, tj_answer a)
         printf("%s: %" PRIu64 "\n", question, a.value);
 }
 
-int main(void)
+static void types(void)
 {
-    /* Slice of Char8; Array of 3 Char8; Arraylike of Char8; View of Pointer to Int32; a leaf early. */
-    const uint64_t slice[] = {16, 0, 0, 12, 0, 0};
-    const uint64_t array[] = {14, 0, 3, 12, 0, 0};
-    const uint64_t arraylike[] = {19, 0, 0, 12, 0, 0};
-    const uint64_t view[] = {24, 0, 0, 23, 0, 0, 3, 0, 0};
-    const uint64_t early[] = {23, 0, 0, 3, 0, 0, 3, 0, 0};
-    uint64_t size = 7, low = 7, high = 7, found = 7, fixed[9] = {0};
-    /* A table of two free records, with its store. */
-    static tj_symbol table[2];
-    static uint64_t store[2 * 48];
+    /* A Pointer to Int32, and then a layer too many: the leaf comes early. */
+    const uint64_t early[] = {TJ_POINTER, 0, 0, TJ_INT32, 0, 0, TJ_INT32, 0, 0};
+    uint64_t size = 7, low = 7, high = 7, made[TJ_TYPE_WORDS] = {0};
 
     say("layers of view", tj_check(WORDS(view)));
     say("layers of early", tj_check(WORDS(early)));
@@ -40,14 +46,21 @@ int main(void)
     printf("which is %" PRIu64 "\n", size);
     say("highest value of the leaf of view", tj_max_u128(view + 6, 3, &low, &high));
     printf("which is %" PRIu64 " * 2^64 + %" PRIu64 "\n", high, low);
+    say("words of a string literal's type", tj_for_string_literal(3, WORDS(made)));
+    say("which is array", tj_identical(made, 6, WORDS(array)));
     say("array coerces into slice", tj_can_coerce_into(WORDS(array), WORDS(slice)));
     say("slice coerces into array", tj_can_coerce_into(WORDS(slice), WORDS(array)));
-    say("words of an extern arraylike", tj_fix_type_for_flags(WORDS(arraylike), true, 1, WORDS(fixed)));
-    printf("of kinds %" PRIu64 " %" PRIu64 " %" PRIu64 "\n", fixed[0], fixed[3], fixed[6]);
-    say("array in an extern", tj_fix_type_for_flags(WORDS(array), true, 1, WORDS(fixed)));
+    say("slice equals itself", tj_equals(WORDS(slice), WORDS(slice)));
+    say("words of an extern arraylike",
+        tj_fix_type_for_flags(WORDS(arraylike), true, TJ_IN_PARAMETER, WORDS(made)));
+    printf("of kinds %" PRIu64 " %" PRIu64 " %" PRIu64 "\n", made[0], made[3], made[6]);
+    say("array in an extern", tj_fix_type_for_flags(WORDS(array), true, TJ_IN_PARAMETER, WORDS(made)));
+}
 
-    say("arraylike put under 5",
-        tj_put_type(WORDS(table), WORDS(store), 5, true, 1, WORDS(arraylike)));
+static void symbols(void)
+{
+    uint64_t found = 7;
+    say("arraylike put under 5", tj_put_type(WORDS(table), WORDS(store), 5, true, 1, WORDS(arraylike)));
     say("slice put under 5", tj_put_type(WORDS(table), WORDS(store), 5, true, 2, WORDS(slice)));
     say("view put under 5", tj_put_type(WORDS(table), WORDS(store), 5, true, 3, WORDS(view)));
     say("array put under 5", tj_put_type(WORDS(table), WORDS(store), 5, true, 4, WORDS(array)));
@@ -57,5 +70,53 @@ int main(void)
     printf("in slot %" PRIu64 ", named at %" PRIu64 "\n", found, table[found].place);
     say("6 is", tj_get_symbol(WORDS(table), WORDS(store), 6, true, &found));
     printf("with mark %" PRIu64 "\n", found);
+}
+
+static void say_kinds(const char *what, const uint64_t *words, size_t count, size_t each)
+{
+    printf("  %s:", what);
+    for (size_t i = 0; i < count; i++)
+        printf(" %" PRIu64, words[each * i]);
+    printf("%s\n", count ? "" : " none");
+}
+
+static const char *is(const uint64_t *a, size_t na, const uint64_t *b, size_t nb)
+{
+    return na == nb && !memcmp(a, b, na * sizeof *a) ? "is" : "IS NOT";
+}
+
+/* A plan for a plain read, and what its caller looks at. */
+static void plan(const char *what, const uint64_t *known, size_t nknown, const uint64_t *asked, size_t nasked,
+                 const uint64_t *wanted, size_t nwanted)
+{
+    uint64_t steps[TJ_PLAN_WORDS], reported[TJ_TYPE_WORDS], walked[TJ_TYPE_WORDS];
+    tj_plan p = tj_autoderef(known, nknown, asked, nasked, wanted, nwanted, 0, TJ_MOST_ROUNDS, WORDS(table),
+                             WORDS(store), WORDS(steps), WORDS(reported));
+    tj_answer w = {p.refusal, p.value};
+    if (p.refusal == TJ_ACCEPTED)
+        w = tj_walk(known, nknown, steps, 4 * p.steps, p.address, WORDS(table), WORDS(store), WORDS(walked));
+    printf("%s\n", what);
+    if (w.refusal != TJ_ACCEPTED) {
+        printf("  refused %" PRIu64 " at %" PRIu64 "\n", w.refusal, w.value);
+        return;
+    }
+    say_kinds("kinds of its steps", steps, p.steps, 4);
+    say_kinds("kinds of the type it reports", reported, p.layers, 3);
+    say_kinds("kinds of the type the walker arrives at", walked, w.value / 3, 3);
+    printf("  asked steps taken: %" PRIu64 " of %zu\n", p.taken, nasked / 4);
+    printf("  the type walked to %s the reported one\n", is(walked, w.value, reported, 3 * p.layers));
+    printf("  the reported type %s the wanted one%s\n", is(reported, 3 * p.layers, wanted, nwanted),
+           p.coerced ? ", and coerces into it" : "");
+}
+
+int main(void)
+{
+    const uint64_t element[] = {TJ_ELEMENT, 7, TJ_ENDLESS_UNKNOWN, 0};
+    types();
+    symbols();
+    plan("element 7 of slice, as Char8", WORDS(slice), WORDS(element), WORDS(char8));
+    plan("view, as Int32: the exception", WORDS(view), element, 0, WORDS(int32));
+    plan("array, as Int32: it leads elsewhere", WORDS(array), element, 0, WORDS(int32));
+    plan("array, as slice", WORDS(array), element, 0, WORDS(slice));
     return 0;
 }

@@ -1,8 +1,7 @@
 /* A host keeps a symbol table: the steps of symbols.inc, each printed with its answer and, where
  * something was stored, with the record afterwards.
  *
- *   rt staticlib trestlejay
- *   cc -I include examples/symbols.c target/staticlib/libtrestlejay.a -o symbols && ./symbols
+ *   cc -I include examples/symbols.c "$(./archive)/libtrestlejay.a" -o symbols && ./symbols
  */
 #include "trestlejay.h"
 #include <inttypes.h>
@@ -11,12 +10,12 @@
 
 /* Three records that are free at first, with their store, and a word more. */
 static tj_symbol table[3];
-static uint64_t store[3 * 48 + 1];
-static size_t records = 3, stored = 3 * 48;
+static uint64_t store[3 * TJ_SLOT_WORDS + 1];
+static size_t records = 3, stored = 3 * TJ_SLOT_WORDS;
 
 static tj_symbol alone;
-static uint64_t alone_words[48 + 1];
-static size_t room = 48;
+static uint64_t alone_words[TJ_SLOT_WORDS + 1];
+static size_t room = TJ_SLOT_WORDS;
 
 static uint64_t found;
 
@@ -67,7 +66,7 @@ static void show(const char *name, const tj_symbol *s, const uint64_t *words)
 {
     printf("  %s: id %" PRIu32 ", %s, place %" PRIu64, name, s->id,
            s->authority ? "authoritative" : "not authoritative", s->place);
-    if (s->state == 1) {
+    if (s->state == TJ_TYPED) {
         printf(", type");
         for (size_t k = 0; k < 3 * s->layers; k++)
             printf(" %" PRIu64, words[k]);
@@ -79,7 +78,7 @@ static void show_slot(size_t k)
 {
     char name[24];
     snprintf(name, sizeof name, "slot %zu", k);
-    show(name, &table[k], store + 48 * k);
+    show(name, &table[k], store + TJ_SLOT_WORDS * k);
 }
 
 /* The step, its answer, and what it stored or found. */
@@ -97,7 +96,7 @@ static void say(const char *operation, const char *arguments, uint32_t id, tj_an
         show("alone", &alone, alone_words);
     else if (a.value)
         for (size_t k = 0; k < records; k++)
-            if (table[k].state && table[k].id == id)
+            if (table[k].state != TJ_FREE && table[k].id == id)
                 show_slot(k);
 }
 

@@ -1,7 +1,6 @@
 /* What a question costs, by the number of layers: nanoseconds a call, the least of five runs.
  *
- *   rt staticlib trestlejay
- *   cc -O2 -I include examples/time.c target/staticlib/libtrestlejay.a -o time && ./time
+ *   cc -O2 -I include examples/time.c "$(./archive)/libtrestlejay.a" -o time && ./time
  */
 #define _POSIX_C_SOURCE 199309L
 #include "trestlejay.h"

@@ -1,5 +1,6 @@
 /* The header's sections Types, Relations, Extern fixing and Sheets. */
 #include "strength.h"
+#include <string.h>
 
 bool answered(tj_answer a, uint64_t most)
 {
@@ -107,6 +108,21 @@ static bool ask_two(size_t which, uint64_t *refusal)
     return answered(got, 1) && all_kept();
 }
 
+/* The type of a string literal, or of a string slice. */
+static bool ask_string(size_t which, uint64_t *refusal)
+{
+    uint64_t length = some_number();
+    size_t room = once_in(2) ? below(9) : below(ROOM);
+    uint64_t *out = lend_room(8 * room);
+    tj_answer a = which == 0 ? tj_for_string_literal(length, out, room) : tj_for_string_slice(out, room);
+    const uint64_t literal[] = {TJ_ARRAY, 0, length, TJ_CHAR8, 0, 0}, slice[] = {TJ_SLICE, 0, 0, TJ_CHAR8, 0, 0};
+    *refusal = a.refusal;
+    if (a.refusal)
+        return a.refusal == TJ_OUTPUT_TOO_SHORT && room < 6 && answered(a, 0);
+    return answered(a, 6) && room >= 6 && a.value == 6 &&
+           !memcmp(out, which == 0 ? literal : slice, sizeof literal) && kept_from(0, sizeof literal);
+}
+
 static bool ask_fixing(size_t which, uint64_t *refusal)
 {
     (void)which;
@@ -156,6 +172,8 @@ const export questions[] = {
     {"stored_size", ask_size, 1},
     {"min_i128", ask_bound, 0},
     {"max_u128", ask_bound, 1},
+    {"for_string_literal", ask_string, 0},
+    {"for_string_slice", ask_string, 1},
     {"identical", ask_two, 0},
     {"equals", ask_two, 1},
     {"is_like", ask_two, 2},

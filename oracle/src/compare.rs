@@ -7,6 +7,7 @@ use crate::random::Random;
 use crate::records;
 use crate::sheet_face;
 use crate::small::*;
+use crate::strings;
 use crate::types::*;
 use crate::words::{ARRAYLIKE, BOOL, CHAR8, POINTER, UINT8, VIEW};
 use std::thread;
@@ -91,6 +92,7 @@ pub fn compare(scale: u64, seed: u64) -> (u64, u64) {
             scope.spawn(|| records::compare(scale, &mut Random::new(seed))),
             scope.spawn(|| plans::compare(scale, &mut Random::new(seed))),
             scope.spawn(|| sheet_face::compare(scale, &mut Random::new(seed))),
+            scope.spawn(|| strings::compare(scale, &mut Random::new(seed))),
         ];
         let types = types.join().expect("the questions about types end");
         let others: Vec<_> = parts

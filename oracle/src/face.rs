@@ -1,5 +1,5 @@
-//! The proved library's C face: include/trestlejay.h, sections Types, Relations and
-//! Extern fixing, in its order.
+//! The proved library's C face: include/trestlejay.h, sections Types, Relations and Extern fixing, in its
+//! order, and the types of strings.
 
 use crate::ask::{Answer, FIXING};
 use crate::blank::{blank, KEPT};
@@ -54,6 +54,9 @@ extern "C" {
         out: *mut u64,
         nout: usize,
     ) -> Raw;
+
+    fn tj_for_string_literal(length: u64, out: *mut u64, nout: usize) -> Raw;
+    fn tj_for_string_slice(out: *mut u64, nout: usize) -> Raw;
 }
 
 enum Entry {
@@ -149,8 +152,30 @@ pub fn answer(question: usize, a: &[u64], b: &[u64]) -> Result<Answer, String> {
     })
 }
 
-/// A type fixed into an output of so many words, each of them another before the call.
+/// A type fixed into an output of so many words.
 fn fixed(t: &[u64], external: bool, context: u64, room: usize) -> Result<Answer, String> {
+    into_output(t, room, |from, to| unsafe {
+        tj_fix_type_for_flags(from, t.len(), external, context, to, room)
+    })
+}
+
+/// The type of a string literal, or of a string slice, into an output of so many words.
+pub fn string_literal(length: u64, room: usize) -> Result<Answer, String> {
+    into_output(&[], room, |_, to| unsafe {
+        tj_for_string_literal(length, to, room)
+    })
+}
+
+pub fn string_slice(room: usize) -> Result<Answer, String> {
+    into_output(&[], room, |_, to| unsafe { tj_for_string_slice(to, room) })
+}
+
+/// A call that is lent a type and an output of so many words, each of them another before the call.
+fn into_output(
+    t: &[u64],
+    room: usize,
+    call: impl FnOnce(*const u64, *mut u64) -> Raw,
+) -> Result<Answer, String> {
     // guard, t, guard, output, guard
     let at = t.len() + 2;
     let mut lent = [&[GUARD], t, &[GUARD], &blank(room), &[GUARD]].concat();
@@ -158,10 +183,7 @@ fn fixed(t: &[u64], external: bool, context: u64, room: usize) -> Result<Answer,
 
     let base = lent.as_mut_ptr();
     // Both slices are inside `lent` and apart; an empty one points to a guard.
-    let raw = unsafe {
-        let (from, to) = (base.add(1), base.add(at));
-        tj_fix_type_for_flags(from, t.len(), external, context, to, room)
-    };
+    let raw = unsafe { call(base.add(1), base.add(at)) };
 
     let count = match raw.refusal {
         0 if raw.value > room as u64 => return Err(format!("{} words of {room}", raw.value)),

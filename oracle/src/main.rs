@@ -44,6 +44,9 @@ mod small;
 mod small_plans;
 mod smoke;
 mod smoke_plans;
+mod smoke_types;
+#[cfg(face)]
+mod strings;
 mod symbols;
 mod types;
 mod words;

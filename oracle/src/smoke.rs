@@ -3,6 +3,7 @@
 use crate::ask::{answer, QUESTIONS, RELATIONS};
 use crate::prelude::{Identifier, ValueType};
 use crate::smoke_plans::plans;
+use crate::smoke_types::every_function;
 use crate::typer::ask::{externalize, fix, update, Record, Table};
 use crate::value_type::ask;
 use crate::words::{check, decode, encode};
@@ -30,6 +31,7 @@ pub fn smoke() -> (u64, u64) {
         failed: 0,
     };
     types(&mut smoke);
+    every_function(&mut smoke);
     relations(&mut smoke);
     symbols(&mut smoke);
     externs(&mut smoke);
@@ -42,7 +44,7 @@ pub fn of(words: &[u64]) -> ValueType {
 }
 
 pub const INT32: [u64; 3] = [3, 0, 0];
-const UINT8: [u64; 3] = [6, 0, 0];
+pub const UINT8: [u64; 3] = [6, 0, 0];
 pub const CHAR8: [u64; 3] = [12, 0, 0];
 
 pub fn int32() -> ValueType {

@@ -53,6 +53,10 @@ use Rattle.trestlejay.proofs.pairs.tj_can_coerce_address_into.Reads as 
 use Rattle.trestlejay.proofs.pairs.tj_can_autoderef_into.Reads as tj-can-autoderef-into
 use Rattle.trestlejay.proofs.pairs.tj_can_subautoderef_into.Reads as tj-can-subautoderef-into
 use Rattle.trestlejay.proofs.fixing.tj_fix_type_for_flags.Reads as tj-fix-type-for-flags
+use Rattle.trestlejay.proofs.strings.tj_for_string_literal.Kinds as of-literal
+use Rattle.trestlejay.proofs.strings.tj_for_string_literal.Reads as tj-for-string-literal
+use Rattle.trestlejay.proofs.strings.tj_for_string_slice.Kinds as of-string-slice
+use Rattle.trestlejay.proofs.strings.tj_for_string_slice.Reads as tj-for-string-slice
 use Rattle.trestlejay.proofs.sheet.tj_read_sheet.Kinds as of-sheet
 use Rattle.trestlejay.proofs.sheet.tj_read_sheet.Reads as tj-read-sheet
 use Rattle.trestlejay.proofs.records.tj_update_symbol as tj-update-symbol
@@ -183,6 +187,14 @@ tj-read-sheet-single κs a x y s t p q = p ∙ sym q
 pub tj-fix-type-for-flags-single : (κs : Lfts 2) (a : Dens κs with-buffer.ps) (x y : resT with-buffer.r κs .Denot) (s t : AtExit (endedOf 2 with-buffer.ps with-buffer.r) κs) →
     tj-fix-type-for-flags.Post κs a x s → tj-fix-type-for-flags.Post κs a y t → (x ≡ y) × (now (s .1 .1 .1 .0) ≡ now (t .1 .1 .1 .0))
 tj-fix-type-for-flags-single κs a x y s t p q = (p .0 ∙ sym (q .0), p .1 ∙ sym (q .1))
+
+pub tj-for-string-literal-single : (κs : Lfts 1) (a : Dens κs of-literal.ps) (x y : resT of-literal.r κs .Denot) (s t : AtExit (endedOf 1 of-literal.ps of-literal.r) κs) →
+    tj-for-string-literal.Post κs a x s → tj-for-string-literal.Post κs a y t → (x ≡ y) × (now (s .1 .0) ≡ now (t .1 .0))
+tj-for-string-literal-single κs a x y s t p q = (p .0 ∙ sym (q .0), p .1 ∙ sym (q .1))
+
+pub tj-for-string-slice-single : (κs : Lfts 1) (a : Dens κs of-string-slice.ps) (x y : resT of-string-slice.r κs .Denot) (s t : AtExit (endedOf 1 of-string-slice.ps of-string-slice.r) κs) →
+    tj-for-string-slice.Post κs a x s → tj-for-string-slice.Post κs a y t → (x ≡ y) × (now (s .0) ≡ now (t .0))
+tj-for-string-slice-single κs a x y s t p q = (p .0 ∙ sym (q .0), p .1 ∙ sym (q .1))
 
 -- The exports on lent symbols and tables, which are proved by hand: the answer, and what was lent as `&mut`.
 module _ {M : Type 1} (𝓤 : URA M) (H : Heap 𝓤) (A : Atoms 𝓤) (mem : Memory → SProp 𝓤) (run : Routine → Fun 𝓤) where

@@ -7,6 +7,7 @@ mod plans;
 mod properties;
 mod records;
 mod sheet;
+mod strings;
 mod uses;
 
 pub use answers::Answer;
@@ -48,6 +49,8 @@ pub use records::tj_put_poison;
 pub use records::tj_put_type;
 pub use records::tj_update_symbol;
 pub use sheet::tj_read_sheet;
+pub use strings::tj_for_string_literal;
+pub use strings::tj_for_string_slice;
 pub use uses::tj_can_be_constant;
 pub use uses::tj_can_be_parameter;
 pub use uses::tj_can_be_returned;

@@ -23,6 +23,14 @@ pub fn is_wellformed_inner<I: Identifier>(a: &ValueType<I>) -> bool {
     a.is_wellformed_inner()
 }
 
+pub fn can_be_element<I: Identifier>(a: &ValueType<I>) -> bool {
+    a.can_be_element()
+}
+
+pub fn add_pointer_depth<I: Identifier>(a: &ValueType<I>, total: usize) -> usize {
+    a.add_pointer_depth(total)
+}
+
 pub fn is_wellformed_element<I: Identifier>(a: &ValueType<I>) -> bool {
     a.is_wellformed_element()
 }
