@@ -15,8 +15,7 @@ use Rattle.sizes.specs.Depth.{pointerDepth}
 use Rattle.columns.specs.declared.symbol.Symbol.{Symbol}
 use Rattle.orders.specs.Order.{inOrder}
 use Rattle.steps.specs.Steps.{Step, steps, goodSteps, stepWords, stepsAnswer}
-use Rattle.turns.specs.declared.turn.Turn.{Turn}
-use Rattle.turns.specs.declared.turn.Turn.the-variants.{Stuck, Auto, Element, Desliced, Member}
+use Rattle.turns.specs.Turn.{Turn, Stuck, Auto, Element, Desliced, Member}
 use Rattle.settlings.specs.Line as line
 use Rattle.settlings.specs.Line.{Line}
 use Rattle.settlings.specs.Settling.{Settled, settleOtherwise, lineOf, settleBy, settle}

@@ -12,7 +12,7 @@ use Rattle.layers.specs.Answer.{given, refused}
 use Rattle.forms.specs.Formed.{wellFormed}
 use Rattle.steps.specs.StepKind as of-step
 use Rattle.steps.specs.Steps.{Step, isHandle, goodStep, goodSteps}
-use Rattle.turns.specs.declared.turn.Turn.{Turn}
+use Rattle.turns.specs.Turn.{Turn}
 use Rattle.layers.proofs.Decide.{both}
 use Rattle.layers.proofs.Given.{not-given, given-is}
 use Rattle.turns.proofs.Cases.{cases}

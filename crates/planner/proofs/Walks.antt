@@ -17,10 +17,9 @@ use Rattle.steps.specs.StepKind as of-step
 use Rattle.steps.specs.Steps.{Step, goodStep, goodSteps}
 use Rattle.steps.proofs.Words.{good-append}
 use Rattle.layers.proofs.Decide.{both}
-use Rattle.turns.specs.declared.turn.Turn.{Turn}
 use Rattle.walker.specs.Walker.{Where, at, stuck, Stored, act, then, walker}
 use Rattle.rounds.specs.Walk.{Walk, ended, stopped, stepsOf, takenBy, goes, turnOf, prepend, onward, walk}
-use Rattle.turns.specs.declared.turn.Turn.the-variants.{Stuck, Auto, Element, Desliced, Member}
+use Rattle.turns.specs.Turn.{Turn, Stuck, Auto, Element, Desliced, Member}
 use Rattle.rounds.proofs.Turning.{took-few}
 use Rattle.planner.specs.Demand.{asked, unmarked, rounds}
 use Rattle.planner.proofs.Leads.{leads, takes, turns-once, steps-good}

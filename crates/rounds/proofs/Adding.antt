@@ -9,31 +9,36 @@ use lib.ListN.{length}
 use Rattle.steps.specs.StepKind as of-step
 use Rattle.steps.specs.Steps.{Step, step, stepWords, putStep}
 use Rattle.steps.proofs.Words.{words-append, put-length}
+use Rattle.turns.specs.Turn.{ofTurn}
 use Rattle.turns.specs.declared.turn.Turn.{Turn}
 use Rattle.turns.specs.declared.turn.Turn.the-variants.{Stuck, Auto, Element, Desliced, Member}
 use Rattle.rounds.proofs.Pushing.{Pushed, one}
 use Rattle.rounds.specs.Walk.{stepsOf}
 
 module _ (b : List ℕ) (n : ℕ) (a : Step) (t : Turn) (room : 4 * n + 8 ≤ length b) where
-  pub none : t ≡ Stuck → Pushed b n b n (stepsOf a t)
-  unfolding stepWords
+  pub none : t ≡ Stuck → Pushed b n b n (stepsOf a (ofTurn t))
+  unfolding stepWords ofTurn
   none e = rw (e, append-nil, add-zero) (refl, refl)
 
-  pub auto : (b′ : List ℕ) (k : ℕ) → t ≡ Auto k → b′ ≡ putStep (step k 0 0 0) (4 * n) b → Pushed b n b′ (n + 1) (stepsOf a t)
+  pub auto : (b′ : List ℕ) (k : ℕ) → t ≡ Auto k → b′ ≡ putStep (step k 0 0 0) (4 * n) b → Pushed b n b′ (n + 1) (stepsOf a (ofTurn t))
+  unfolding ofTurn
   auto b′ k e f = rw e (one b b′ n (step k 0 0 0) (omega arith) f)
 
   pub element : (b′ : List ℕ) (h m l : ℕ) → t ≡ Element m l → h ≡ a .handle → b′ ≡ putStep (step of-step.element h m 0) (4 * n) b →
-      Pushed b n b′ (n + 1) (stepsOf a t)
+      Pushed b n b′ (n + 1) (stepsOf a (ofTurn t))
+  unfolding ofTurn
   element b′ h m l e g f = rw (e, ← g) (one b b′ n (step of-step.element h m 0) (omega arith) f)
 
   pub member : (b′ : List ℕ) (k h m u : ℕ) → t ≡ Member → k ≡ a .kind → h ≡ a .handle → m ≡ a .mark → u ≡ a .number →
-      b′ ≡ putStep (step k h m u) (4 * n) b → Pushed b n b′ (n + 1) (stepsOf a t)
+      b′ ≡ putStep (step k h m u) (4 * n) b → Pushed b n b′ (n + 1) (stepsOf a (ofTurn t))
+  unfolding ofTurn
   member b′ k h m u e p q r s f =
       let whole : step k h m u ≡ a = rw (p, q, r, s) in
       rw e (one b b′ n a (omega arith) (f ∙ ap (λ (z : Step). putStep z (4 * n) b) whole))
 
   pub sliced : (b₁ b₂ : List ℕ) (h m : ℕ) → t ≡ Desliced m → h ≡ a .handle → b₁ ≡ putStep (step of-step.autodeslice 0 m 0) (4 * n) b →
-      b₂ ≡ putStep (step of-step.element h of-step.no 0) (4 * n + 4) b₁ → Pushed b n b₂ (n + 2) (stepsOf a t)
+      b₂ ≡ putStep (step of-step.element h of-step.no 0) (4 * n + 4) b₁ → Pushed b n b₂ (n + 2) (stepsOf a (ofTurn t))
+  unfolding ofTurn
   sliced b₁ b₂ h m e g f₁ f₂ =
       let i : 4 * n + 4 ≡ 4 * (n + 1) = omega arith in
       let wide : 4 * (n + 1) + 4 ≤ length b₁ = rw (f₁, put-length) (omega arith) in

@@ -11,7 +11,7 @@ use Rattle.layers.specs.Answer.{Answer, given, refused}
 use Rattle.layers.proofs.Words.{inner-layers}
 use Rattle.forms.specs.Formed.{wellFormed}
 use Rattle.steps.specs.Steps.{Step}
-use Rattle.turns.specs.declared.turn.Turn.{Turn}
+use Rattle.turns.specs.Turn.{Turn}
 use Rattle.turns.proofs.Cases.{cases}
 use Rattle.walker.specs.Walker.{Stored}
 use Rattle.walker.specs.Members.{ofLayers}

@@ -11,7 +11,7 @@ use mir.Val.{Fits}
 use Rattle.layers.specs.Layers.{layers, Whole}
 use Rattle.layers.specs.Answer.{Answer, refused}
 use Rattle.steps.proofs.Words.{stepAt}
-use Rattle.turns.specs.declared.turn.Turn.{Turn}
+use Rattle.turns.specs.Turn.{Turn}
 use Rattle.reports.specs.declared.report.Report.{Report}
 use Rattle.reports.specs.Plan.{Plan}
 use Rattle.reports.specs.Report.{notGiven, told, stepsOver, typeOver}

@@ -14,6 +14,8 @@ use Rattle.layers.proofs.Words.{none, more, rest, inner-layers, inner-whole, pa
 use Rattle.forms.specs.Formed.{wellFormed}
 use Rattle.steps.proofs.Words.{stepAt}
 use Rattle.turns.specs.Turns.{turn}
+use Rattle.turns.specs.Turn as paper
+use Rattle.turns.specs.Turn.{ofTurn}
 use Rattle.turns.specs.declared.turn.Turn.{Turn}
 use Rattle.turns.specs.declared.turn.Turn.the-variants.{Stuck, Auto, Element, Desliced, Member}
 use Rattle.rounds.specs.Round.{memberRefusal, turnAt, onto}
@@ -35,36 +37,36 @@ module _ (ws : List ℕ) where
   ill-formed f h e g = let w : wellFormed (head ws ∷ layers (rest ws)) ≡ false = rw (← more ws h) (sym e ∙ g) in rw (more ws h, w)
 
 -- what a round decides
-pub turned : (cur q d : List ℕ) (x y k m : ℕ) (t : Turn) → x ≡ outer (layers cur) → d ≡ drop 3 cur → y ≡ outer (layers d) → k ≡ getD q 0 0 → m ≡ getD q 2 0 →
+pub turned : (cur q d : List ℕ) (x y k m : ℕ) (t : paper.Turn) → x ≡ outer (layers cur) → d ≡ drop 3 cur → y ≡ outer (layers d) → k ≡ getD q 0 0 → m ≡ getD q 2 0 →
     t ≡ turn x y k m → t ≡ turnAt (layers cur) (stepAt q)
 turned cur q d x y k m t e f g h i j = j ∙ rw (e, g, f, inner-layers cur, h, i)
 
 -- where it goes on
 module _ (members : ℕ → List ℕ) (ws : List ℕ) (handle : ℕ) (t : Turn) where
-  pub stuck : t ≡ Stuck → ws ≡ onto members ws handle t
-  unfolding onto
+  pub stuck : t ≡ Stuck → ws ≡ onto members ws handle (ofTurn t)
+  unfolding onto ofTurn
   stuck e = rw e
 
   module _ (x : List ℕ) where
-    pub through : (k : ℕ) → t ≡ Auto k → x ≡ drop 3 ws → x ≡ onto members ws handle t
-    unfolding onto
+    pub through : (k : ℕ) → t ≡ Auto k → x ≡ drop 3 ws → x ≡ onto members ws handle (ofTurn t)
+    unfolding onto ofTurn
     through k e f = rw e f
 
-    pub desliced : (m : ℕ) → t ≡ Desliced m → x ≡ drop 3 ws → x ≡ onto members ws handle t
-    unfolding onto
+    pub desliced : (m : ℕ) → t ≡ Desliced m → x ≡ drop 3 ws → x ≡ onto members ws handle (ofTurn t)
+    unfolding onto ofTurn
     desliced m e f = rw e f
 
-    pub to-member : (h : ℕ) → t ≡ Member → h ≡ handle → x ≡ members h → x ≡ onto members ws handle t
-    unfolding onto
+    pub to-member : (h : ℕ) → t ≡ Member → h ≡ handle → x ≡ members h → x ≡ onto members ws handle (ofTurn t)
+    unfolding onto ofTurn
     to-member h e g f = rw (e, ← g) f
 
   module _ (m l : ℕ) (e : t ≡ Element m l) (x : List ℕ) (f : x ≡ drop 3 ws) where
-    pub one-layer : l ≡ 1 → x ≡ onto members ws handle t
-    unfolding onto
+    pub one-layer : l ≡ 1 → x ≡ onto members ws handle (ofTurn t)
+    unfolding onto ofTurn
     one-layer h = rw (e, eq-eqb l 1 h) f
 
-    pub two-layers : (y : List ℕ) → (l ≡ 1 → ⊥) → y ≡ drop 3 x → y ≡ onto members ws handle t
-    unfolding onto
+    pub two-layers : (y : List ℕ) → (l ≡ 1 → ⊥) → y ≡ drop 3 x → y ≡ onto members ws handle (ofTurn t)
+    unfolding onto ofTurn
     two-layers y h g = rw (e, ne-eqb l 1 h) (g ∙ ap (drop 3) f)
 
 -- a part that runs to the end
@@ -77,14 +79,14 @@ to-end-past q a h =
     to-end q (length q) ∙ drop-length q ∙ sym (drop-of-length-le q l)
 
 -- where a round goes on is whole
-pub onto-whole : (members : ℕ → List ℕ) → AllWhole members → (ws : List ℕ) (handle : ℕ) (t : Turn) → Whole ws → Whole (onto members ws handle t)
+pub onto-whole : (members : ℕ → List ℕ) → AllWhole members → (ws : List ℕ) (handle : ℕ) (t : paper.Turn) → Whole ws → Whole (onto members ws handle t)
 unfolding onto
-onto-whole members all ws handle Stuck w = w
-onto-whole members all ws handle (Auto k) w = inner-whole ws w
-onto-whole members all ws handle (Element m l) w = by-layers (eqb l 1)
+onto-whole members all ws handle paper.Stuck w = w
+onto-whole members all ws handle (paper.Auto k) w = inner-whole ws w
+onto-whole members all ws handle (paper.Element m l) w = by-layers (eqb l 1)
   where
     by-layers : (f : Bool) → Whole (cond f (drop 3 ws) (drop 3 (drop 3 ws)))
     by-layers true = inner-whole ws w
     by-layers false = inner-whole (drop 3 ws) (inner-whole ws w)
-onto-whole members all ws handle (Desliced m) w = inner-whole ws w
-onto-whole members all ws handle Member w = all handle
+onto-whole members all ws handle (paper.Desliced m) w = inner-whole ws w
+onto-whole members all ws handle paper.Member w = all handle

@@ -14,8 +14,7 @@ use Rattle.layers.specs.Layers.{Layer, layers}
 use Rattle.layers.specs.Answer.{given, refused}
 use Rattle.steps.specs.Steps.{Step, steps, stepWords}
 use Rattle.steps.proofs.Words.{stepAt, steps-none, steps-more, words-append, words-back}
-use Rattle.turns.specs.declared.turn.Turn.{Turn}
-use Rattle.turns.specs.declared.turn.Turn.the-variants.{Stuck, Auto, Element, Desliced, Member}
+use Rattle.turns.specs.Turn.{Turn, Stuck, Auto, Element, Desliced, Member}
 use Rattle.walker.specs.Walker.{Stored}
 use Rattle.walker.specs.Members.{ofLayers}
 use Rattle.rounds.specs.Walk.{Walk, ended, stopped, stepsOf, takenBy, goes, turnOf, prepend, walk}

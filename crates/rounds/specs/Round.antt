@@ -7,8 +7,7 @@ use Rattle.layers.specs.Layers.{Layer, outer, inside, innerWords}
 use Rattle.forms.specs.Formed.{wellFormed}
 use Rattle.steps.specs.Steps.{Step}
 use Rattle.turns.specs.Turns.{turn}
-use Rattle.turns.specs.declared.turn.Turn.{Turn}
-use Rattle.turns.specs.declared.turn.Turn.the-variants.{Stuck, Auto, Element, Desliced, Member}
+use Rattle.turns.specs.Turn.{Turn, Stuck, Auto, Element, Desliced, Member}
 
 -- What a round decides of the current type and the first asked step.
 abbrev pub turnAt : List Layer → Step → Turn

@@ -8,8 +8,7 @@ use Rattle.layers.specs.Answer.{Answer, given, nothing, refused}
 use Rattle.forms.specs.Formed.{wellFormed}
 use Rattle.steps.specs.StepKind as of-step
 use Rattle.steps.specs.Steps.{Step, step}
-use Rattle.turns.specs.declared.turn.Turn.{Turn}
-use Rattle.turns.specs.declared.turn.Turn.the-variants.{Stuck, Auto, Element, Desliced, Member}
+use Rattle.turns.specs.Turn.{Turn, Stuck, Auto, Element, Desliced, Member}
 use Rattle.turns.specs.Turns.{turn}
 use Rattle.walker.specs.Walker.{Stored, typed, absent}
 

@@ -13,6 +13,7 @@ ghost use lib.ListN.{length, take, getD};
 ghost use Rattle.layers.specs.Layers.{layers};
 ghost use Rattle.steps.specs.Steps.{stepWords};
 ghost use Rattle.steps.proofs.Words.{stepAt};
+ghost use Rattle.turns.specs.Turn.{ofTurn};
 ghost use Rattle.walker.specs.Members.{memberIn};
 ghost use Rattle.rounds.specs.Walk.{stepsOf, takenBy};
 ghost use Rattle.rounds.specs.Round as rounds;
@@ -26,7 +27,7 @@ fn word(q: &[u64], i: usize) -> u64
 
 // What a round decides of the current type and the first of the asked steps.
 pub(crate) fn turn_at(cur: &[u64], q: &[u64]) -> Turn
-    ensures { λ r. ⌜ r ≡ rounds.turnAt (layers (now (cur .entry))) (stepAt (now (q .entry))) ⌝ }
+    ensures { λ r. ⌜ ofTurn r ≡ rounds.turnAt (layers (now (cur .entry))) (stepAt (now (q .entry))) ⌝ }
 {
     turn_of(outer(cur), outer(inner(cur)), word(q, 0), word(q, 2))
 }
@@ -42,7 +43,7 @@ fn member_refusal(t: &[u64]) -> u64
 
 // The refusal of a round, 0 where it goes on, to the words next.
 pub(crate) fn refusal(t: Turn, next: &[u64]) -> u64
-    ensures { λ r. ⌜ r ≡ rounds.refusal t (layers (now (next .entry))) ⌝ }
+    ensures { λ r. ⌜ r ≡ rounds.refusal (ofTurn t) (layers (now (next .entry))) ⌝ }
 {
     match t {
         Turn::Stuck => 8,
@@ -62,7 +63,7 @@ pub(crate) fn onto<'a>(
     q: &[u64],
     t: Turn,
 ) -> &'a [u64]
-    ensures { λ r. ⌜ now r ≡ rounds.onto (memberIn (now (flat .entry)) n (now (store .entry))) (now (cur .entry)) (stepAt (now (q .entry)) .handle) t ⌝ }
+    ensures { λ r. ⌜ now r ≡ rounds.onto (memberIn (now (flat .entry)) n (now (store .entry))) (now (cur .entry)) (stepAt (now (q .entry)) .handle) (ofTurn t) ⌝ }
 {
     match t {
         Turn::Stuck => cur,
@@ -81,7 +82,7 @@ pub(crate) fn onto<'a>(
 
 // How many asked steps a round takes.
 pub(crate) fn took(t: Turn) -> usize
-    ensures { λ r. ⌜ r ≡ takenBy t ⌝ }
+    ensures { λ r. ⌜ r ≡ takenBy (ofTurn t) ⌝ }
 {
     match t {
         Turn::Stuck => 0,
@@ -95,8 +96,8 @@ pub(crate) fn took(t: Turn) -> usize
 // Writes a round's steps from step n on; where the next step goes. The words q start with the asked step.
 pub(crate) fn push(buf: &mut [u64], n: usize, q: &[u64], t: Turn) -> usize
     requires { ⌜ 4 * n + 8 ≤ length (now buf) ⌝ }
-    ensures { λ r. ⌜ (r ≡ n + length (stepsOf (stepAt (now (q .entry))) t))
-        × (take (4 * r) (now (buf .exit)) ≡ take (4 * n) (now (buf .entry)) ++ stepWords (stepsOf (stepAt (now (q .entry))) t)) ⌝ }
+    ensures { λ r. ⌜ (r ≡ n + length (stepsOf (stepAt (now (q .entry))) (ofTurn t)))
+        × (take (4 * r) (now (buf .exit)) ≡ take (4 * n) (now (buf .entry)) ++ stepWords (stepsOf (stepAt (now (q .entry))) (ofTurn t))) ⌝ }
 {
     let at = 4 * n;
     let handle = word(q, 1);

@@ -10,8 +10,7 @@ use Rattle.kinds.specs.Kind as kind
 use Rattle.layers.specs.Layers.{isArray, isReference}
 use Rattle.layers.proofs.Decide.{both}
 use Rattle.steps.specs.StepKind as of-step
-use Rattle.turns.specs.declared.turn.Turn.{Turn}
-use Rattle.turns.specs.declared.turn.Turn.the-variants.{Stuck, Auto, Element, Desliced, Member}
+use Rattle.turns.specs.Turn.{Turn, Stuck, Auto, Element, Desliced, Member}
 use Rattle.turns.specs.Turns.{auto, onReference, onElement, onMember, turn}
 
 -- a kind that one of two tests names

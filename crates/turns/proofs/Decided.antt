@@ -8,8 +8,7 @@ use Rattle.layers.specs.Layers.{isReference}
 use Rattle.layers.proofs.Decide.{yes, no}
 use Rattle.steps.specs.StepKind as of-step
 use Rattle.turns.specs.Turns.{auto, onReference, onElement, onMember, turn}
-use Rattle.turns.specs.declared.turn.Turn.{Turn}
-use Rattle.turns.specs.declared.turn.Turn.the-variants.{Stuck, Auto}
+use Rattle.turns.specs.Turn.{Turn, Stuck, Auto}
 
 -- the automatic step, by the outer kind
 pub auto-pointer : (k : ℕ) → k ≡ 23 → Auto of-step.autoderef ≡ Auto (auto k)

@@ -5,8 +5,7 @@ use lib.Dec.{eqb}
 use Rattle.kinds.specs.Kind as kind
 use Rattle.layers.specs.Layers.{isReference}
 use Rattle.steps.specs.StepKind as of-step
-use Rattle.turns.specs.declared.turn.Turn.{Turn}
-use Rattle.turns.specs.declared.turn.Turn.the-variants.{Stuck, Auto, Element, Desliced, Member}
+use Rattle.turns.specs.Turn.{Turn, Stuck, Auto, Element, Desliced, Member}
 
 -- "Any other Pointer: Autoderef; View: Autoview"
 abbrev pub auto : ℕ → ℕ

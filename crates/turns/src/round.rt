@@ -2,6 +2,7 @@ use crate::turn::Turn;
 use kinds::Kind;
 use steps::StepKind;
 ghost use mathlib.Core.Path.{_≡_};
+ghost use Rattle.turns.specs.Turn.{ofTurn};
 ghost use Rattle.turns.specs.Turns as rules;
 
 // The marks of an Element.
@@ -16,7 +17,7 @@ const BY_POINTER: u64 = 1;
 
 // On a Pointer or a View, of the kind inside.
 fn on_reference(k: u64, l: u64, asked: u64, mark: u64) -> Turn
-    ensures { λ r. ⌜ r ≡ rules.onReference k l asked mark ⌝ }
+    ensures { λ r. ⌜ ofTurn r ≡ rules.onReference k l asked mark ⌝ }
 {
     if (asked == StepKind::ELEMENT) & (l == Kind::ARRAYLIKE) {
         return Turn::Element { mark, layers: 2 };
@@ -30,7 +31,7 @@ fn on_reference(k: u64, l: u64, asked: u64, mark: u64) -> Turn
 
 // An Element on any other kind.
 fn on_element(k: u64) -> Turn
-    ensures { λ r. ⌜ r ≡ rules.onElement k ⌝ }
+    ensures { λ r. ⌜ ofTurn r ≡ rules.onElement k ⌝ }
 {
     if (k == Kind::ARRAY) | (k == Kind::ARRAY_WITH_NAMED_LENGTH) {
         return Turn::Element {
@@ -55,7 +56,7 @@ fn on_element(k: u64) -> Turn
 
 // A Member on any other kind.
 fn on_member(k: u64) -> Turn
-    ensures { λ r. ⌜ r ≡ rules.onMember k ⌝ }
+    ensures { λ r. ⌜ ofTurn r ≡ rules.onMember k ⌝ }
 {
     if (k == Kind::STRUCT) | (k == Kind::WORD) {
         Turn::Member
@@ -66,7 +67,7 @@ fn on_member(k: u64) -> Turn
 
 // One round's decision: k is the current type's outer kind and l the kind inside, of the asked step's kind and mark.
 pub fn turn_of(k: u64, l: u64, asked: u64, mark: u64) -> Turn
-    ensures { λ r. ⌜ r ≡ rules.turn k l asked mark ⌝ }
+    ensures { λ r. ⌜ ofTurn r ≡ rules.turn k l asked mark ⌝ }
 {
     if (k == Kind::POINTER) | (k == Kind::VIEW) {
         return on_reference(k, l, asked, mark);

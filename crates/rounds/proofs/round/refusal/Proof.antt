@@ -1,10 +1,11 @@
 use borrow.Author.Needs.{needs}
 use Rattle.rounds.proofs.round.refusal.Statement.{statement}
 use Rattle.rounds.proofs.round.refusal.Tie as tie
+use Rattle.turns.specs.Turn.{ofTurn}
 use Rattle.rounds.specs.Round.{refusal}
 
 pub refusal-spec : {M : Type 1} → statement M
-unfolding refusal
+unfolding refusal ofTurn
 refusal-spec =
     tie.close
     (tie.spec

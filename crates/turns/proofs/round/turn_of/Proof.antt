@@ -1,9 +1,11 @@
 use Rattle.turns.proofs.Decided.{on-reference, on-element, on-member, on-no-other}
 use borrow.Author.Needs.{needs}
+use Rattle.turns.specs.Turn.{ofTurn}
 use Rattle.turns.proofs.round.turn_of.Statement.{statement}
 use Rattle.turns.proofs.round.turn_of.Tie as tie
 
 pub turn-of-spec : {M : Type 1} → statement M
+unfolding ofTurn
 turn-of-spec =
     tie.close
     (tie.spec
