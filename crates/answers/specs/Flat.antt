@@ -12,7 +12,7 @@ accepted v = record { refusal = 0; value = v }
 abbrev pub notAccepted : ℕ → ℕ → Answer
 notAccepted n p = record { refusal = n; value = p }
 
--- "refusal 0: accepted; value is the answer"; 0 where there is no such part.
+-- "accepted; value is the answer"; 0 where there is no such part.
 unfoldable pub flat : paper.Answer ℕ → Answer
 flat (given v) = accepted v
 flat nothing = accepted 0

@@ -57,7 +57,7 @@ unfoldable pub inside : List Layer → List Layer
 inside [] = []
 inside (x ∷ a) = a
 
--- "The inner type is the caller's own words from the next layer on."
+-- "The inner type is the caller's own words from the next layer on".
 abbrev pub innerWords : List ℕ → List ℕ
 innerWords ws = drop 3 ws
 

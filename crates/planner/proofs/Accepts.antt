@@ -54,13 +54,13 @@ module _ (table : List Symbol) (store known asked target : List ℕ) (depth limi
   meets : Demand stored (layers known) (steps asked) (layers target) depth limit plan
   meets = demand-carried table store known asked target depth limit r b b′ c c′ h z
 
-  on-view : (x : exception) → arrives stored (plan .steps) (plan .address) (layers known) ≡ at (x .c)
+  on-view : (x : exception) → arrives stored (plan .steps) (plan .address) (layers known) ≡ at (x .holds .c)
   unfolding arrives
-  on-view x = rw (x .ends, x .plain) refl
+  on-view x = rw (x .holds .ends, x .plain) refl
 
   -- where the walker arrives
   reached : (u : List Layer) × ((arrives stored (plan .steps) (plan .address) (layers known) ≡ at u) × ((u ≡ plan .type) ⊎ exception))
-  reached = ⊎-elim (λ e. (plan .type, (e, inl refl))) (λ x. (x .c, (on-view x, inr x))) (meets .there)
+  reached = ⊎-elim (λ e. (plan .type, (e, inl refl))) (λ x. (x .holds .c, (on-view x, inr x))) (meets .there)
 
   abbrev u : List Layer
   u = reached .0

@@ -27,11 +27,11 @@ use Rattle.rounds.specs.Walk.{ended, walk}
 use Rattle.rounds.proofs.Finishing.{depth-few}
 use Rattle.reports.specs.Plan.{Plan}
 use Rattle.planner.specs.Plan.{planOf}
-use Rattle.planner.specs.Demand.{rounds, Hidden, Demand}
+use Rattle.planner.specs.Demand.{Exception, Hidden, Demand}
 use Rattle.planner.specs.Reported.{Reported}
-use Rattle.planner.proofs.Walks.{asked-append, rounds-append, walker-append, walks, in-order, all-taken, no-more, all-good, few-steps}
+use Rattle.planner.proofs.Walks.{asked-append, walker-append, walks, in-order, all-taken, no-longer, no-more, all-good, few-steps}
 use Rattle.planner.proofs.Sound.{Passing, Sound, walk-sound}
-use Rattle.planner.proofs.Settles.{Exception, exact, at-is, settles, asks-nothing, adds-good, adds-few}
+use Rattle.planner.proofs.Settles.{Unstepped, exact, at-is, settles, must-hide, asks-nothing, adds-good, adds-few}
 use Rattle.planner.proofs.Plans.{planned, every-plan}
 
 module _ (stored : ℕ → Stored) (members : (id : ℕ) (t : List Layer) → stored id ≡ typed t → Passing t)
@@ -45,30 +45,36 @@ module _ (stored : ℕ → Stored) (members : (id : ℕ) (t : List Layer) → st
       unfolding arrives
       along us a = rw (walker-append stored ss us known, walks stored limit known q ss k c e) refl
 
-      hidden : Exception stored c target depth s → Hidden stored known target depth (planned ss k s)
+      hidden : Unstepped stored c target depth s → Hidden stored known target depth (planned ss k s)
       hidden x = record {
-        c = c;
-        ends = rw (x .is, append-nil) (walks stored limit known q ss k c e);
-        level = x .level;
-        view = x .view;
-        last = x .last;
+        holds = record { c = c; ends = rw (x .is, append-nil) (walks stored limit known q ss k c e); level = x .level; view = x .view; last = x .last };
         type = rw (x .is);
         plain = rw (x .is);
       }
+
+      -- the walk ends on one type
+      excepted : Exception stored known target depth ss → Hidden stored known target depth (planned ss k s)
+      excepted x =
+          let is : x .c ≡ c = at-is stored (x .c) c (sym (x .ends) ∙ walks stored limit known q ss k c e) in
+          hidden (must-hide stored c target depth sound s f (x .level) (rw is at (x .view)) (rw is at (x .last)))
 
       meets : Demand stored known q target depth limit (planned ss k s)
       meets = record {
         order = asked-append ss (s .steps) ∙ rw (in-order stored limit known q ss k c e, asks-nothing c target depth s f, append-nil);
         few = no-more stored limit known q ss k c e;
-        all =
-            ⊎-elim (λ (i : k ≡ length q). inl i) (λ (i : rounds ss ≡ limit). inr (omega (arith, i, rounds-append ss (s .steps))))
-            (all-taken stored limit known q ss k c e);
+        walked = ss;
+        further = s .steps;
+        parts = refl;
+        unasked = asks-nothing c target depth s f;
+        within = no-longer stored limit known q ss k c e;
+        all = all-taken stored limit known q ss k c e;
         good = good-append ss (s .steps) ∙ rw (all-good stored limit known q ss k c e good, adds-good c target depth s f) refl;
         there =
             ⊎-elim (λ l. inl (along (s .steps) (s .address) ∙ l)) (λ x. inr (hidden x)) (settles stored c target depth sound s f);
+        except = excepted;
       }
 
-      on-view : Exception stored c target depth s → arrives stored (ss ++ s .steps) (s .address) known ≡ at c
+      on-view : Unstepped stored c target depth s → arrives stored (ss ++ s .steps) (s .address) known ≡ at c
       unfolding arrives walker
       on-view x = along (s .steps) (s .address) ∙ rw (x .is) refl
 

@@ -10,7 +10,7 @@ use native.Mathlib.Numerals.{add-one}
 use native.Mathlib.Omega.{arith}
 use lib.Dec.{eqb}
 use lib.ListN.{length, drop, replicate, length-replicate}
-use borrow.Author.Tests.{eqb-true}
+use borrow.Author.Tests.{eqb-true, eq-eqb}
 use Rattle.kinds.specs.Kind as kind
 use Rattle.layers.specs.Layers.{Layer, layer, outer, inside}
 use Rattle.layers.specs.Answer.{given}
@@ -23,7 +23,7 @@ use Rattle.layers.proofs.Decide.{both}
 use Rattle.steps.specs.StepKind as of-step
 use Rattle.steps.specs.Steps.{Step, step, goodStep, goodSteps}
 use Rattle.settlings.specs.Line as line
-use Rattle.settlings.specs.Settling.{Settled, settled, pointer, dereferenced, lineOf, settle}
+use Rattle.settlings.specs.Settling.{Settled, settled, pointer, dereferenced, settleOtherwise, lineOf, settleBy, settle}
 use Rattle.settlings.proofs.Lines.{lines, seventh}
 use Rattle.walker.specs.Walker.{at, Stored, act, walker, arrives}
 use Rattle.planner.specs.Demand.{asked}
@@ -118,8 +118,8 @@ module _ (stored : ℕ → Stored) where
   abbrev Leads : List Layer → Settled → Type 0
   Leads c s = arrives stored (s .steps) (s .address) c ≡ at (s .type)
 
-  -- the exception: at depth 0 a View, by line (vii) alone
-  pub record Exception (c t : List Layer) (n : ℕ) (s : Settled) : Type 0 where
+  -- the exception: at depth 0 a View, by line (vii) alone, and no step for it
+  pub record Unstepped (c t : List Layer) (n : ℕ) (s : Settled) : Type 0 where
     pub level : n ≡ 0
     pub view : outer c ≡ kind.view
     pub last : lineOf c t n ≡ line.vii
@@ -134,7 +134,7 @@ module _ (stored : ℕ → Stored) where
           let whole : pointerDepth c ≡ (pointerDepth c - n) + n = omega arith in
           rw (unwinds c (pointer-is-inner c e (sound .formed)) (sound .passing .good) (pointerDepth c - n) n whole) refl
 
-      on-view : lineOf c t n ≡ line.vii → eqb (outer c) kind.view ≡ true → Exception c t n (dereferenced c n (pointerDepth c))
+      on-view : lineOf c t n ≡ line.vii → eqb (outer c) kind.view ≡ true → Unstepped c t n (dereferenced c n (pointerDepth c))
       on-view last e =
           let none : pointerDepth c ≡ 0 = view-flat c e in
           let level : n ≡ 0 = omega (arith, none) in
@@ -149,21 +149,30 @@ module _ (stored : ℕ → Stored) where
           rw (kinds .0, level, kinds .1) refl
 
       otherwise : lineOf c t n ≡ line.vii → eqb (outer c) kind.slicePointer ≡ false →
-          Leads c (dereferenced c n (pointerDepth c)) ⊎ Exception c t n (dereferenced c n (pointerDepth c))
+          Leads c (dereferenced c n (pointerDepth c)) ⊎ Unstepped c t n (dereferenced c n (pointerDepth c))
       otherwise last slice = by-kind (eqb (outer c) kind.pointer) (eqb (outer c) kind.view) refl refl
         where
           by-kind : (f h : Bool) → eqb (outer c) kind.pointer ≡ f → eqb (outer c) kind.view ≡ h →
-              Leads c (dereferenced c n (pointerDepth c)) ⊎ Exception c t n (dereferenced c n (pointerDepth c))
+              Leads c (dereferenced c n (pointerDepth c)) ⊎ Unstepped c t n (dereferenced c n (pointerDepth c))
           by-kind true h e k = inl (on-pointer e)
           by-kind false true e k = inr (on-view last k)
           by-kind false false e k = inl (on-other e slice k)
 
-    pub settles : (s : Settled) → settle c t n ≡ given s → Leads c s ⊎ Exception c t n s
+    pub settles : (s : Settled) → settle c t n ≡ given s → Leads c s ⊎ Unstepped c t n s
     unfolding arrives walker act
     settles s g =
-        lines c t n (λ s. Leads c s ⊎ Exception c t n s) (λ e. inl refl) (λ e f. inl (rw (e, identical-equal (inside c) t f) refl)) (λ e. inl refl)
+        lines c t n (λ s. Leads c s ⊎ Unstepped c t n s) (λ e. inl refl) (λ e f. inl (rw (e, identical-equal (inside c) t f) refl)) (λ e. inl refl)
         (λ e f. inl refl) (λ e. inl refl)
-        (λ is s h. seventh c n (λ s. Leads c s ⊎ Exception c t n s) (λ e. inl refl) (λ few slice. otherwise few is slice) s h) s g
+        (λ is s h. seventh c n (λ s. Leads c s ⊎ Unstepped c t n s) (λ e. inl refl) (λ few slice. otherwise few is slice) s h) s g
+
+    -- where the exception's conditions hold, no step is added
+    pub must-hide : (s : Settled) → settle c t n ≡ given s → n ≡ 0 → outer c ≡ kind.view → lineOf c t n ≡ line.vii → Unstepped c t n s
+    unfolding settle settleBy
+    must-hide s g level view is =
+        let none : pointerDepth c ≡ 0 = view-flat c (eq-eqb (outer c) kind.view view) in
+        let h : settleOtherwise c n (pointerDepth c) ≡ given s = rw is at g in
+        seventh c n (λ s. Unstepped c t n s) (λ e. absurd (omega (arith, e, none, level)))
+        (λ few slice. on-view few is (eq-eqb (outer c) kind.view view)) s h
 
 -- the steps that a settling adds: none, an Autoview, or Autoderefs, no more than Pointers
 module _ (c t : List Layer) (n : ℕ) (P : List Step → Type 0)

@@ -2,19 +2,24 @@
 -- Assumes nothing.
 use mathlib.Core.Path.{_≡_, refl}
 use mathlib.Core.Bool.{true, false}
-use mathlib.Core.List.{[]}
+use mathlib.Core.List.{List, [], _∷_, _++_}
+use Prim.Native.Nat.{ℕ}
+use lib.ListN.{replicate}
 use Rattle.kinds.specs.Kind as kind
-use Rattle.layers.specs.Layers.{outer, inside}
-use Rattle.layers.specs.Answer.{refused}
+use Rattle.layers.specs.Layers.{Layer, layer, outer, inside}
+use Rattle.layers.specs.Answer.{Answer, given, nothing, refused}
 use Rattle.parts.specs.Parts.{references}
 use Rattle.sizes.specs.Depth.{pointerDepth}
 use Rattle.forms.specs.Formed.{inner, element, wellFormed}
 use Rattle.equalities.specs.Equalities.{identical, plain, equals}
 use Rattle.coercions.specs.Coercions.{coerces, addressCoerces, viewAutoderefs, autoderefs}
 use Rattle.turns.specs.Turns.{turn}
-use Rattle.settlings.specs.Settling.{settleOtherwise, lineOf, settleBy, settle}
+use Rattle.steps.specs.StepKind as of-step
+use Rattle.steps.specs.Steps.{step}
+use Rattle.settlings.specs.Settling.{pointer, settleOtherwise, lineOf, settleBy, settle}
 use Rattle.rounds.specs.Walk.{walk}
-use Rattle.walker.specs.Walker.{absent, walker}
+use Rattle.walker.specs.Walker.{typed, absent, walker}
+use Rattle.reports.specs.Plan.{Plan}
 use Rattle.planner.specs.Plan.{planOf}
 use Rattle.planner.specs.Demand.{Hidden}
 use Rattle.planner.proofs.Table.{leaf, of, int32, plan, planned}
@@ -48,4 +53,22 @@ pub the-exception : Hidden (λ id. absent) (of kind.view (of kind.pointer int32)
     (record { steps = []; taken = 0; type = int32; address = false; coerced = false })
 unfolding walker lineOf outer inside references pointerDepth identical plain equals coerces addressCoerces
 the-exception =
-    record { c = of kind.view (of kind.pointer int32); ends = refl; level = refl; view = refl; last = refl; type = refl; plain = refl }
+    record {
+      holds = record { c = of kind.view (of kind.pointer int32); ends = refl; level = refl; view = refl; last = refl };
+      type = refl;
+      plain = refl;
+    }
+
+-- 64 rounds can be too few: of fifteen Pointers to a Struct with a member of that same type, and five asked Members, four
+-- are taken
+abbrev deep : List Layer
+deep = replicate 15 pointer ++ (layer kind.struct 1 0 ∷ [])
+
+abbrev takenOf : Answer Plan → ℕ
+takenOf (given p) = p .taken
+takenOf nothing = 0
+takenOf (refused n p) = 0
+
+pub sixty-four-rounds : takenOf (planOf (λ id. typed deep) deep (replicate 5 (step of-step.member 7 0 0)) (layer kind.struct 1 0 ∷ []) 0 64) ≡ 4
+unfolding outer inside references pointerDepth inner element wellFormed identical plain equals coerces addressCoerces turn settleOtherwise lineOf settleBy settle walk planOf
+sixty-four-rounds = refl

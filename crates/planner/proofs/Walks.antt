@@ -34,7 +34,7 @@ asked-append (s ∷ ss) us = by-kind (leb (s .kind) of-step.member) (asked-appen
     by-kind true i = rw i
     by-kind false i = i
 
-pub rounds-append : (ss us : List Step) → rounds (ss ++ us) ≡ rounds ss + rounds us
+rounds-append : (ss us : List Step) → rounds (ss ++ us) ≡ rounds ss + rounds us
 unfolding rounds
 rounds-append [] us = omega arith
 rounds-append (s ∷ ss) us = by-kind (eqb (s .kind) of-step.autodeslice) (rounds-append ss us)
@@ -119,7 +119,7 @@ module _ (stored : ℕ → Stored) where
         every-walk (λ n t q ss k c. walker stored ss t ≡ at c) (λ t q. refl) (λ n t. refl)
         (λ n t a q u us j c g h. rw (walker-append (stepsOf a (turnOf stored t a)) us t, leads stored t a u g) h) n t q ss k c e
 
-    -- "the element and member steps are, an element's endless mark aside, the first *taken* asked steps in order"
+    -- "the element and member steps are, an element's endless mark aside, the asked ones in order from the first"
     pub in-order : asked ss ≡ map unmarked (take k q)
     unfolding asked
     in-order =
@@ -130,7 +130,7 @@ module _ (stored : ℕ → Stored) where
         (sym (map-append unmarked (take (takenBy (turnOf stored t a)) (a ∷ q)) (take j (drop (takenBy (turnOf stored t a)) (a ∷ q))))))
         n t q ss k c e
 
-    -- "*taken* is all of them unless the rounds were used up"
+    -- "all of them unless the round limit stopped the walk"
     pub all-taken : (k ≡ length q) ⊎ (rounds ss ≡ n)
     unfolding rounds
     all-taken =
@@ -141,6 +141,13 @@ module _ (stored : ℕ → Stored) where
         inl (omega (arith, i, length-drop (takenBy (turnOf stored t a)) (a ∷ q), took-few (turnOf stored t a))))
         (λ (i : rounds us ≡ n). inr (rounds-append (stepsOf a (turnOf stored t a)) us ∙ rw (turns-once stored t a u g, i) (omega arith))) h)
         n t q ss k c e
+
+    -- a walk has no more rounds than allowed
+    pub no-longer : rounds ss ≤ n
+    unfolding rounds
+    no-longer =
+        every-walk (λ n t q ss k c. rounds ss ≤ n) (λ t q. omega arith) (λ n t. omega arith)
+        (λ n t a q u us j c g h. omega (arith, h, rounds-append (stepsOf a (turnOf stored t a)) us, turns-once stored t a u g)) n t q ss k c e
 
     -- no more are counted as taken than were asked
     pub no-more : k ≤ length q

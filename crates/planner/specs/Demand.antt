@@ -1,9 +1,9 @@
 -- The third demand: what is asked of each plan that is given. It is stated of the plan alone: of its steps, its count, its
--- reported type and its flag, and of where the walker goes. Of the planner it names the lines of the settling and no more.
+-- reported type and its flag, and of where the walker goes. Of the planner it names which line of the settling applies.
 use mathlib.Core.Path.{_≡_}
 use mathlib.Core.Bool.{true, false, cond}
 use mathlib.Core.Logic.{_⊎_}
-use mathlib.Core.List.{List, [], _∷_, map}
+use mathlib.Core.List.{List, [], _∷_, _++_, map}
 use Prim.Native.Nat.{ℕ, _+_, _≤_}
 use lib.Dec.{eqb, leb}
 use lib.ListN.{length, take, drop}
@@ -26,21 +26,24 @@ unfoldable pub asked : List Step → List Step
 asked [] = []
 asked (s ∷ ss) = cond (leb (s .kind) of-step.member) (unmarked s ∷ asked ss) (asked ss)
 
--- How many rounds it takes to add these steps: a round adds one step that is no Autodeslice.
+-- How many rounds added these steps: a round adds one step that is no Autodeslice.
 unfoldable pub rounds : List Step → ℕ
 rounds [] = 0
 rounds (s ∷ ss) = cond (eqb (s .kind) of-step.autodeslice) (rounds ss) (rounds ss + 1)
 
--- "One exception: at address depth 0, when the walk ends on a view and only the last settling rule applies, the reported
--- type is that view fully dereferenced."
-pub record Hidden (stored : ℕ → Stored) (known target : List Layer) (depth : ℕ) (plan : Plan) : Type 0 where
-  -- where the walk ends: the walker takes the plan's steps to it
+-- "One exception: at address depth 0, when the walk ends on a view and only the last settling rule applies,": the walker
+-- takes the walk's steps to c.
+pub record Exception (stored : ℕ → Stored) (known target : List Layer) (depth : ℕ) (walked : List Step) : Type 0 where
   pub c : List Layer
-  pub ends : walker stored (plan .steps) known ≡ at c
+  pub ends : walker stored walked known ≡ at c
   pub level : depth ≡ 0
   pub view : outer c ≡ kind.view
   pub last : lineOf c target depth ≡ line.vii
-  pub type : plan .type ≡ drop (references c) c
+
+-- "the reported type is that view fully dereferenced.": no step is added for it, and no address.
+pub record Hidden (stored : ℕ → Stored) (known target : List Layer) (depth : ℕ) (plan : Plan) : Type 0 where
+  pub holds : Exception stored known target depth (plan .steps)
+  pub type : plan .type ≡ drop (references (holds .c)) (holds .c)
   pub plain : plan .address ≡ false
 
 -- "Let the known, target and member types be well formed." The planner refuses all others.
@@ -49,10 +52,17 @@ pub record Demand (stored : ℕ → Stored) (known : List Layer) (q : List Step)
   -- first,": as many of them as the plan says that it took.
   pub order : asked (plan .steps) ≡ map unmarked (take (plan .taken) q)
   pub few : plan .taken ≤ length q
-  -- "and all of them unless the round limit stopped the walk.": then the plan's own steps took that many rounds.
-  pub all : (plan .taken ≡ length q) ⊎ (limit ≤ rounds (plan .steps))
+  -- The steps are those of a walk, of no more rounds than allowed, and further ones that nobody asked for.
+  pub walked : List Step
+  pub further : List Step
+  pub parts : plan .steps ≡ walked ++ further
+  pub unasked : asked further ≡ []
+  pub within : rounds walked ≤ limit
+  -- "and all of them unless the round limit stopped the walk."
+  pub all : (plan .taken ≡ length q) ⊎ (rounds walked ≡ limit)
   -- Each step is one: its marks are marks, and its unused words are 0.
   pub good : goodSteps (plan .steps) ≡ true
   -- "A plain walker, knowing only what one step does to a type, takes the plan's steps from the known type, then the address
   -- if flagged, and arrives at exactly the reported type."
   pub there : (arrives stored (plan .steps) (plan .address) known ≡ at (plan .type)) ⊎ Hidden stored known target depth plan
+  pub except : Exception stored known target depth walked → Hidden stored known target depth plan

@@ -18,8 +18,8 @@ use Rattle.reports.specs.Plan.{Plan}
 abbrev pub Target : List Layer → Plan → Type 0
 Target target plan = (plan .type ≡ target) × (plan .coerced ≡ false)
 
--- "c coerces into t: coerced." "c address coerces into t: address, coerced." The type that is reached, or its address, is
--- reported.
+-- "c coerces into t: coerced." "c address coerces into t: address, coerced." The type that is reached is reported, or its
+-- address.
 pub record Coerced (stored : ℕ → Stored) (known target : List Layer) (plan : Plan) : Type 0 where
   pub c : List Layer
   pub ends : walker stored (plan .steps) known ≡ at c
@@ -27,7 +27,8 @@ pub record Coerced (stored : ℕ → Stored) (known target : List Layer) (plan :
   pub into : ((coerces c target ≡ true) × (plan .address ≡ false) × (plan .type ≡ c))
       ⊎ ((addressCoerces c target ≡ true) × (plan .address ≡ true) × (plan .type ≡ pointer ∷ c))
 
--- The walk ended on c, line (vii) applied there, and the plan's further steps, its type and its flags are what it gives.
+-- The plan's first steps lead the walker to a type c at which line (vii) applies, and its further steps, its type and its
+-- flags are what that line gives.
 pub record Last (stored : ℕ → Stored) (known target : List Layer) (depth : ℕ) (plan : Plan) : Type 0 where
   pub walked : List Step
   pub further : List Step

@@ -36,7 +36,7 @@ told (given p) =
 told nothing = notGiven 0 0
 told (refused n q) = notGiven n q
 
--- "The steps and the reported type are written from the first word of their buffers."
+-- "A result is written from the output's first word; the rest is kept."
 unfoldable pub stepsOver : Answer Plan → List ℕ → List ℕ
 stepsOver (given p) b = written (stepWords (p .steps)) b
 stepsOver nothing b = b

@@ -1,6 +1,6 @@
 -- What the walk's loop keeps, its ways on and out, as the code meets them.
 -- Assumes nothing.
-use mathlib.Core.Path.{_≡_, sym, ap, _∙_}
+use mathlib.Core.Path.{_≡_, refl, sym, ap, _∙_}
 use mathlib.Core.List.{List}
 use mathlib.Core.Logic.{_⊎_}
 use Prim.Native.Nat.{ℕ, _+_, _*_, _≤_, _<_}
@@ -89,10 +89,10 @@ module _ (member : ℕ → List ℕ) (rounds : ℕ) (known asked buf cur rest : 
 
   -- one round
   module _ (lt : i < rounds) (more : 4 ≤ length rest) (t : Turn) (is : t ≡ turnAt (layers cur) (stepAt rest)) (next : List ℕ)
-      (f : next ≡ onto member cur (stepAt rest .handle) t) (e : ℕ) (g : e ≡ refusal t (layers next)) where
-    module _ (target : List ℕ) (level room wide : ℕ) (z : e ≡ 0 → ⊥) where
+      (f : next ≡ onto member cur (stepAt rest .handle) t) where
+    module _ (target : List ℕ) (level room wide : ℕ) (e : ℕ) (g : e ≡ refusal t (layers next)) (z : 0 < e) where
       refusing : walked member known asked target level rounds room wide ≡ refused e 0
-      refusing = walk-refused member known asked target level rounds room wide e (stops member rounds known asked buf cur rest i n taken (a .so) lt more t is next f e g z)
+      refusing = walk-refused member known asked target level rounds room wide e (stops member rounds known asked buf cur rest i n taken (a .so) lt more t is next f e g (λ q. omega (arith, q)))
 
       pub told-refusal : (r : Report) → r ≡ notGiven e 0 → r ≡ told (walked member known asked target level rounds room wide)
       told-refusal r q = outcome.told-refused e 0 _ refusing r q
@@ -103,11 +103,11 @@ module _ (member : ℕ → List ℕ) (rounds : ℕ) (known asked buf cur rest : 
       pub type-stays : (s : List ℕ) → s ≡ typeOver (walked member known asked target level rounds room wide) s
       type-stays s = outcome.type-stays e 0 _ refusing s
 
-    pub along-turn : e ≡ 0 → AllWhole member → (buf′ rest′ : List ℕ) (n′ k : ℕ) → Pushed buf n buf′ n′ (stepsOf (stepAt rest) t) → length buf′ ≡ length buf → k ≡ takenBy t → rest′ ≡ drop (4 * k) rest →
+    pub along-turn : 0 ≡ refusal t (layers next) → AllWhole member → (buf′ rest′ : List ℕ) (n′ k : ℕ) → Pushed buf n buf′ n′ (stepsOf (stepAt rest) t) → length buf′ ≡ length buf → k ≡ takenBy t → rest′ ≡ drop (4 * k) rest →
         Along member rounds known asked buf′ next rest′ (i + 1) n′ (taken + k)
-    along-turn z all buf′ rest′ n′ k pushed long ek er =
+    along-turn g all buf′ rest′ n′ k pushed long ek er =
         record {
-          so = turns member rounds known asked buf cur rest i n taken (a .so) lt more t is next f e g z buf′ rest′ n′ k pushed ek er;
+          so = turns member rounds known asked buf cur rest i n taken (a .so) lt more t is next f 0 g refl buf′ rest′ n′ k pushed ek er;
           within = omega arith;
           few = omega (arith, a .few, steps-few (stepAt rest) t, pushed .0);
           least = omega (arith, a .least, took-few t);

@@ -1,14 +1,14 @@
 -- What the code reads of words.
 -- Assumes nothing.
 use mathlib.Core.Path.{_≡_, sym, ap, _∙_}
-use mathlib.Core.Bool.{Bool, true, false, cond}
+use mathlib.Core.Bool.{Bool, true, false, cond, not}
 use mathlib.Core.List.{List, _∷_}
 use Prim.Native.Nat.{ℕ, _-_, _≤_, _<_}
 use native.Mathlib.Omega.{arith}
 use lib.Dec.{eqb}
 use lib.ListN.{length, getD, take, drop, drop-of-length-le, List·getD-eq-default}
 use lib.Seq.{drop-length}
-use borrow.Author.Tests.{eq-eqb, ne-eqb}
+use borrow.Author.Tests.{eq-eqb, ne-eqb, not-true, not-false}
 use Rattle.layers.specs.Layers.{layers, outer, head, Whole}
 use Rattle.layers.proofs.Words.{none, more, rest, inner-layers, inner-whole, part-is}
 use Rattle.forms.specs.Formed.{wellFormed}
@@ -18,23 +18,50 @@ use Rattle.turns.specs.Turn as paper
 use Rattle.turns.specs.Turn.{ofTurn}
 use Rattle.turns.specs.declared.turn.Turn.{Turn}
 use Rattle.turns.specs.declared.turn.Turn.the-variants.{Stuck, Auto, Element, Desliced, Member}
-use Rattle.rounds.specs.Round.{memberRefusal, turnAt, onto}
+use Rattle.rounds.specs.Round.{turnAt, onto, refusal}
 use Rattle.rounds.specs.Walked.{AllWhole}
 
 -- a word past the end
 pub past : (q : List ℕ) (i : ℕ) → length q ≤ i → 0 ≡ getD q i 0
 past q i h = sym (List·getD-eq-default q 0 h)
 
--- the refusal of a member's words
-module _ (ws : List ℕ) where
-  pub no-words : length ws < 3 → 11 ≡ memberRefusal (layers ws)
-  no-words h = rw (none ws)
+-- what the decisions on a turn say of its refusal
+module _ (t : Turn) (ws : List ℕ) where
+  abbrev refuses : ℕ → Type 0
+  refuses e = e ≡ refusal (ofTurn t) (layers ws)
 
-  pub formed : (f : Bool) → 3 ≤ length ws → f ≡ wellFormed (layers ws) → f ≡ true → 0 ≡ memberRefusal (layers ws)
-  formed f h e g = let w : wellFormed (head ws ∷ layers (rest ws)) ≡ true = rw (← more ws h) (sym e ∙ g) in rw (more ws h, w)
+  pub none-fits : t ≡ Stuck → refuses 8
+  unfolding refusal ofTurn
+  none-fits e = rw e
 
-  pub ill-formed : (f : Bool) → 3 ≤ length ws → f ≡ wellFormed (layers ws) → f ≡ false → 4 ≡ memberRefusal (layers ws)
-  ill-formed f h e g = let w : wellFormed (head ws ∷ layers (rest ws)) ≡ false = rw (← more ws h) (sym e ∙ g) in rw (more ws h, w)
+  pub auto-fits : (k : ℕ) → t ≡ Auto k → refuses 0
+  unfolding refusal ofTurn
+  auto-fits k e = rw e
+
+  pub element-fits : (m l : ℕ) → t ≡ Element m l → refuses 0
+  unfolding refusal ofTurn
+  element-fits m l e = rw e
+
+  pub desliced-fits : (m : ℕ) → t ≡ Desliced m → refuses 0
+  unfolding refusal ofTurn
+  desliced-fits m e = rw e
+
+  module _ (e : t ≡ Member) where
+    pub no-member : length ws < 3 → refuses 11
+    unfolding refusal ofTurn
+    no-member h = rw (e, none ws)
+
+    module _ (h : 3 ≤ length ws) (f : Bool) (g : f ≡ wellFormed (layers ws)) where
+      form : (b : Bool) → f ≡ b → wellFormed (head ws ∷ layers (rest ws)) ≡ b
+      form b p = rw (← more ws h) (sym g ∙ p)
+
+      pub ill-formed : not f ≡ true → refuses 4
+      unfolding refusal ofTurn
+      ill-formed p = rw (e, more ws h, form false (not-true f p))
+
+      pub member-fits : not f ≡ false → refuses 0
+      unfolding refusal ofTurn
+      member-fits p = rw (e, more ws h, form true (not-false f p))
 
 -- what a round decides
 pub turned : (cur q d : List ℕ) (x y k m : ℕ) (t : paper.Turn) → x ≡ outer (layers cur) → d ≡ drop 3 cur → y ≡ outer (layers d) → k ≡ getD q 0 0 → m ≡ getD q 2 0 →

@@ -1,4 +1,3 @@
-use forms::is_wellformed;
 use layers::inner;
 use layers::outer;
 use steps::StepKind;
@@ -30,28 +29,6 @@ pub(crate) fn turn_at(cur: &[u64], q: &[u64]) -> Turn
     ensures { λ r. ⌜ ofTurn r ≡ rounds.turnAt (layers (now (cur .entry))) (stepAt (now (q .entry))) ⌝ }
 {
     turn_of(outer(cur), outer(inner(cur)), word(q, 0), word(q, 2))
-}
-
-fn member_refusal(t: &[u64]) -> u64
-    ensures { λ r. ⌜ r ≡ rounds.memberRefusal (layers (now (t .entry))) ⌝ }
-{
-    if t.len() < 3 {
-        return 11;
-    }
-    if is_wellformed(t) { 0 } else { 4 }
-}
-
-// The refusal of a round, 0 where it goes on, to the words next.
-pub(crate) fn refusal(t: Turn, next: &[u64]) -> u64
-    ensures { λ r. ⌜ r ≡ rounds.refusal (ofTurn t) (layers (now (next .entry))) ⌝ }
-{
-    match t {
-        Turn::Stuck => 8,
-        Turn::Auto(_) => 0,
-        Turn::Element { mark: _, layers: _ } => 0,
-        Turn::Desliced(_) => 0,
-        Turn::Member => member_refusal(next),
-    }
 }
 
 // The words where a round goes on: a part of the current type's, or of the store.

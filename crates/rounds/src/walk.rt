@@ -1,11 +1,12 @@
 use crate::finish::finish;
 use crate::round::onto;
 use crate::round::push;
-use crate::round::refusal;
 use crate::round::took;
 use crate::round::turn_at;
+use forms::is_wellformed;
 use reports::Report;
 use reports::refuse;
+use turns::Turn;
 ghost use mathlib.Core.Path.{_≡_};
 ghost use Prim.Native.Nat.{_≤_, _*_};
 ghost use lib.ListN.{length, drop};
@@ -60,9 +61,21 @@ pub fn walk_asked<'a>(
         i += 1;
         let t = turn_at(cur, rest);
         let next = onto(flat, count, store, cur, rest, t);
-        let e = refusal(t, next);
-        if e != 0 {
-            return refuse(e, 0);
+        match t {
+            Turn::Stuck => {
+                return refuse(8, 0);
+            }
+            Turn::Auto(_) => {}
+            Turn::Element { mark: _, layers: _ } => {}
+            Turn::Desliced(_) => {}
+            Turn::Member => {
+                if next.len() < 3 {
+                    return refuse(11, 0);
+                }
+                if !is_wellformed(next) {
+                    return refuse(4, 0);
+                }
+            }
         }
         n = push(&mut buf, n, rest, t);
         let k = took(t);

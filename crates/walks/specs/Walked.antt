@@ -1,4 +1,4 @@
--- The plain walker at work: "takes the steps, 128 at most, from the known type, then the address where address is set."
+-- The plain walker at work: it takes the steps, 128 at most, from the known type, then the address where it is asked for.
 use mathlib.Core.Bool.{Bool, cond}
 use mathlib.Core.List.{List, [], _∷_}
 use Prim.Native.Nat.{ℕ, _+_}

@@ -1,4 +1,4 @@
--- "Sheets (added)": "little-endian u64 words".
+-- "Sheets (added)": "Little-endian u64 words".
 use mathlib.Core.List.{List, [], _∷_}
 use Prim.Native.Nat.{ℕ, zero, suc, _+_, _*_, _/_}
 use lib.ListN.{length, take, drop}
