@@ -55,8 +55,8 @@ pub record Table : Type 0 where
   -- "Char8 equals Uint8, isn't declared as it."
   pub char8-equals-uint8 : equals char8 uint8 ≡ true
   pub char8-not-declared : declared char8 uint8 ≡ false
-  -- "Pointer to Slice ill formed."
-  pub pointer-to-slice : wellFormed (of kind.pointer (of kind.slice int32)) ≡ false
+  -- "Pointer to Slice ill formed.": to a Slice of anything
+  pub pointer-to-slice : (t : List Layer) → wellFormed (of kind.pointer (of kind.slice t)) ≡ false
   -- "View of Int32 to Int32: one Autoview."
   pub view-to-int32 : planned (of kind.view int32) [] int32 0 64 ≡ plan (step of-step.autoview 0 0 0 ∷ []) 0 int32 false false
   -- "Slice of Char8, Element 7, target Char8: Autodeslice, Element."
@@ -77,7 +77,7 @@ unfolding outer inside references pointerDepth inner element wellFormed identica
 table = record {
   char8-equals-uint8 = refl;
   char8-not-declared = refl;
-  pointer-to-slice = refl;
+  pointer-to-slice = λ t. refl;
   view-to-int32 = refl;
   slice-of-char8 = refl;
   one-round = refl;

@@ -4,7 +4,7 @@ use mathlib.Core.Path.{_≡_, _∙_}
 use mathlib.Core.Bool.{Bool}
 use mathlib.Core.List.{List}
 use Prim.Native.Nat.{ℕ}
-use Rattle.layers.specs.Layers.{Layer, layers}
+use Rattle.layers.specs.Layers.{layers}
 use Rattle.layers.specs.Answer.{Answer, refused, ofChecked, next, truth}
 use Rattle.checks.specs.Check.{checkOf}
 use Rattle.layers.specs.declared.answers.Checked.{Checked}
@@ -13,13 +13,6 @@ use Rattle.checks.proofs.Refusals.{refuses, accepts, answered, next-next}
 use Rattle.questions.specs.Answers.{relates, relationAnswer, passes, coercionAnswer}
 use Rattle.questions.specs.declared.relate.Relation.{Relation}
 use Rattle.questions.specs.declared.coerce.Coercion.{Coercion}
-
--- what is right of the case that was found is right of the value
-pub relation-told : (p q : Relation) (a b : List Layer) (r : Bool) → p ≡ q → r ≡ relates q a b → r ≡ relates p a b
-relation-told p q a b r e h = rw e h
-
-pub coercion-told : (p q : Coercion) (a b : List Layer) (r : Bool) → p ≡ q → r ≡ passes q a b → r ≡ passes p a b
-coercion-told p q a b r e h = rw e h
 
 -- after the checks of both types
 module _ (a b : List ℕ) (x : Checked) (e : ofChecked x ≡ next (checkOf a) (checkOf b)) where

@@ -7,9 +7,9 @@ use Prim.Native.Nat.{ℕ}
 use lib.Dec.{eqb}
 use borrow.Author.Tests.{eqb-true}
 use Rattle.kinds.specs.Kind as kind
-use Rattle.layers.specs.Layers.{Layer, layer, outer, inside, isSlice, holdsInner}
+use Rattle.layers.specs.Layers.{Layer, outer, inside, isSlice, holdsInner}
 use Rattle.layers.proofs.Decide.{both}
-use Rattle.equalities.specs.Equalities.{identical, plain, equals}
+use Rattle.equalities.specs.Equalities.{identical}
 use Rattle.equalities.proofs.Theorems.{identical-equal, identical-reflexive}
 use Rattle.relations.specs.Relations.{arrayMeetsArraylike, like, declaresArraylike, slicePointerMeetsPointer, declared, sameHolder, meetsArraylike, resolves, concretization}
 
@@ -108,18 +108,3 @@ like-concretization (x ∷ a) (y ∷ b) e = by-kinds (arrayMeetsArraylike (x .ki
         by-holder true q = absurd (false≢true (sym (meets-no-array (y .kind)) ∙ (rw (same-kind x y q) at p)))
         by-holder false q = rw (q, p) i
     by-kinds false i p = identical-concretization (x ∷ a) (y ∷ b) i
-
--- "Char8 equals Uint8, isn't declared as it."
-abbrev char8 : List Layer
-char8 = layer kind.char8 0 0 ∷ []
-
-abbrev uint8 : List Layer
-uint8 = layer kind.uint8 0 0 ∷ []
-
-pub char8-equals-uint8 : equals char8 uint8 ≡ true
-unfolding equals plain identical
-char8-equals-uint8 = refl
-
-pub char8-not-declared-uint8 : declared char8 uint8 ≡ false
-unfolding declared identical outer inside
-char8-not-declared-uint8 = refl

@@ -1,5 +1,4 @@
 use borrow.Author.Needs.{needs}
-use Rattle.outsides.proofs.Told.{property-told}
 use Rattle.outsides.proofs.properties.holds.Statement.{statement}
 use Rattle.outsides.proofs.properties.holds.Tie as tie
 
@@ -17,8 +16,8 @@ holds-spec =
     (λ c κs. search needs)
     (λ c. search needs)
     (λ c κs. search needs)
-    (λ c. search property-told)
-    (λ c. search property-told)
-    (λ c. search property-told)
-    (λ c. search property-told)
-    (λ c. search property-told))
+    (λ c. search (c .before .enum-told .given .1))
+    (λ c. search (c .before .enum-told2 .given .1))
+    (λ c. search (c .before .enum-told3 .given .1))
+    (λ c. search (c .before .enum-told4 .given .1))
+    (λ c. search (c .before .enum-told5 .given .1)))

@@ -1,5 +1,4 @@
 use borrow.Author.Needs.{needs}
-use Rattle.questions.proofs.Told.{coercion-told}
 use Rattle.questions.proofs.coerce.passes.Statement.{statement}
 use Rattle.questions.proofs.coerce.passes.Tie as tie
 
@@ -15,7 +14,7 @@ passes-spec =
     (λ c κs. search needs)
     (λ c. search needs)
     (λ c κs. search needs)
-    (λ c. search coercion-told)
-    (λ c. search coercion-told)
-    (λ c. search coercion-told)
-    (λ c. search coercion-told))
+    (λ c. search (c .before .enum-told .given .1))
+    (λ c. search (c .before .enum-told2 .given .1))
+    (λ c. search (c .before .enum-told3 .given .1))
+    (λ c. search (c .before .enum-told4 .given .1)))

@@ -1,5 +1,4 @@
 use borrow.Author.Needs.{needs}
-use Rattle.questions.proofs.Told.{relation-told}
 use Rattle.questions.proofs.relate.holds.Statement.{statement}
 use Rattle.questions.proofs.relate.holds.Tie as tie
 
@@ -17,8 +16,8 @@ holds-spec =
     (λ c κs. search needs)
     (λ c. search needs)
     (λ c κs. search needs)
-    (λ c. search relation-told)
-    (λ c. search relation-told)
-    (λ c. search relation-told)
-    (λ c. search relation-told)
-    (λ c. search relation-told))
+    (λ c. search (c .before .enum-told .given .1))
+    (λ c. search (c .before .enum-told2 .given .1))
+    (λ c. search (c .before .enum-told3 .given .1))
+    (λ c. search (c .before .enum-told4 .given .1))
+    (λ c. search (c .before .enum-told5 .given .1)))

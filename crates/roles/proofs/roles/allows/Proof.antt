@@ -1,5 +1,4 @@
 use borrow.Author.Needs.{needs}
-use Rattle.roles.proofs.Told.{kind-told}
 use Rattle.roles.proofs.roles.allows.Statement.{statement}
 use Rattle.roles.proofs.roles.allows.Tie as tie
 
@@ -21,10 +20,10 @@ allows-spec =
     (λ c κs. search needs)
     (λ c. search needs)
     (λ c κs. search needs)
-    (λ c. search kind-told)
-    (λ c. search kind-told)
-    (λ c. search kind-told)
-    (λ c. search kind-told)
-    (λ c. search kind-told)
-    (λ c. search kind-told)
-    (λ c. search kind-told))
+    (λ c. search (c .before .enum-told .given .1))
+    (λ c. search (c .before .enum-told2 .given .1))
+    (λ c. search (c .before .enum-told3 .given .1))
+    (λ c. search (c .before .enum-told4 .given .1))
+    (λ c. search (c .before .enum-told5 .given .1))
+    (λ c. search (c .before .enum-told6 .given .1))
+    (λ c. search (c .before .enum-told7 .given .1)))

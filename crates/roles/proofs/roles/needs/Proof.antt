@@ -1,5 +1,4 @@
 use borrow.Author.Needs.{needs}
-use Rattle.roles.proofs.Told.{needs-told}
 use Rattle.roles.proofs.roles.needs.Statement.{statement}
 use Rattle.roles.proofs.roles.needs.Tie as tie
 
@@ -14,10 +13,10 @@ needs-spec =
     (λ c. search needs)
     (λ c. search needs)
     (λ c. search needs)
-    (λ c. search needs-told)
-    (λ c. search needs-told)
-    (λ c. search needs-told)
-    (λ c. search needs-told)
-    (λ c. search needs-told)
-    (λ c. search needs-told)
-    (λ c. search needs-told))
+    (λ c. search (c .enum-told .given .1))
+    (λ c. search (c .enum-told2 .given .1))
+    (λ c. search (c .enum-told3 .given .1))
+    (λ c. search (c .enum-told4 .given .1))
+    (λ c. search (c .enum-told5 .given .1))
+    (λ c. search (c .enum-told6 .given .1))
+    (λ c. search (c .enum-told7 .given .1)))
