@@ -21,8 +21,8 @@ use Rattle.columns.specs.declared.symbol.Symbol.{Symbol}
 use Rattle.answers.specs.Flat.{accepted}
 use Rattle.rulings.specs.Rulings.{lineOf}
 use Rattle.rulings.proofs.Known.{Knows, known}
-use Rattle.rulings.specs.declared.lines.Line.{Line}
-use Rattle.rulings.specs.declared.lines.Line.the-variants as line
+use Rattle.rulings.specs.Line as line
+use Rattle.rulings.specs.Line.{Line}
 use Rattle.updates.specs.Updates.{answerBy, recordBy, wordsBy, storedOf, lineAt, updated, wordsAfter}
 use Rattle.updates.specs.declared.record.Updated.{Updated}
 
@@ -71,12 +71,12 @@ module _ (s : Symbol) (ws : List ℕ) (id : ℕ) (authority : Bool) (place : ℕ
     where
       by-line : (l : Line) → (answerBy l .refusal ≡ 0 → answerBy l .value ≡ 0) →
           (recordBy l s id authority place offered ≡ s) × (wordsBy l offered ws ≡ ws)
-      by-line line.Poisoned h = (refl, refl)
-      by-line line.IllFormed h = (refl, refl)
-      by-line line.Kept h = (refl, refl)
-      by-line line.TypeReplaced h = absurd (omega (arith, h refl))
-      by-line line.BothReplaced h = absurd (omega (arith, h refl))
-      by-line line.Conflicting h = (refl, refl)
+      by-line line.poisoned h = (refl, refl)
+      by-line line.illFormed h = (refl, refl)
+      by-line line.kept h = (refl, refl)
+      by-line line.typeReplaced h = absurd (omega (arith, h refl))
+      by-line line.bothReplaced h = absurd (omega (arith, h refl))
+      by-line line.conflicting h = (refl, refl)
 
   module _ (h : length offered ≤ length ws) (m : length offered % 3 ≡ 0) where
     -- No update makes a stored type that is well formed ill formed.
@@ -88,12 +88,12 @@ module _ (s : Symbol) (ws : List ℕ) (id : ℕ) (authority : Bool) (place : ℕ
         replaced k = rw (stored-written offered ws h m) (both (wellFormed (layers offered)) (wellFormed stored) k .0)
 
         by-line : (l : Line) → Knows (eqb (s .state) 2) formed (holds stored) l → wellFormed (by l) ≡ true
-        by-line line.Poisoned k = e
-        by-line line.IllFormed k = e
-        by-line line.Kept k = e
-        by-line line.TypeReplaced k = replaced k
-        by-line line.BothReplaced k = replaced k
-        by-line line.Conflicting k = e
+        by-line line.poisoned k = e
+        by-line line.illFormed k = e
+        by-line line.kept k = e
+        by-line line.typeReplaced k = replaced k
+        by-line line.bothReplaced k = replaced k
+        by-line line.conflicting k = e
 
     -- After an accepted update of a record that isn't poisoned, the stored type is identical to the offered one or a
     -- concretization of it.
@@ -105,9 +105,9 @@ module _ (s : Symbol) (ws : List ℕ) (id : ℕ) (authority : Bool) (place : ℕ
         replaced = rw (stored-written offered ws h m, identical-reflexive (layers offered))
 
         by-line : (l : Line) → Knows (eqb (s .state) 2) formed (holds stored) l → answerBy l .refusal ≡ 0 → holds (by l) ≡ true
-        by-line line.Poisoned k e = absurd (p (eqb-true (s .state) 2 k))
-        by-line line.IllFormed k e = absurd (omega (arith, e))
-        by-line line.Kept k e = k
-        by-line line.TypeReplaced k e = replaced
-        by-line line.BothReplaced k e = replaced
-        by-line line.Conflicting k e = absurd (omega (arith, e))
+        by-line line.poisoned k e = absurd (p (eqb-true (s .state) 2 k))
+        by-line line.illFormed k e = absurd (omega (arith, e))
+        by-line line.kept k e = k
+        by-line line.typeReplaced k e = replaced
+        by-line line.bothReplaced k e = replaced
+        by-line line.conflicting k e = absurd (omega (arith, e))
