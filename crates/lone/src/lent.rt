@@ -3,6 +3,7 @@ use answers::checked;
 use answers::refused;
 use checks::is_type;
 use columns::Symbol;
+use columns::stored_words;
 use refusals::check_type;
 use updates::Updated;
 use updates::update;
@@ -17,17 +18,13 @@ fn in_order(s: Symbol, words: &[u64]) -> bool
         return false;
     }
     let state = s.state;
-    let n = s.layers;
     if state == 2 {
         return true;
     }
     if state != 1 {
         return false;
     }
-    if n > 16 {
-        return false;
-    }
-    is_type(&words[..n as usize * 3])
+    is_type(stored_words(words, s.layers))
 }
 
 // Updates a record that stands alone, with its 48 words.

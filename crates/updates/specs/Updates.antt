@@ -1,12 +1,13 @@
 -- "An update changes the lent symbol itself, by the first line that applies": what that line does.
-use mathlib.Core.Bool.{Bool, cond}
-use mathlib.Core.List.{List, []}
-use Prim.Native.Nat.{ℕ, _*_, _/_}
-use lib.Dec.{eqb, ltb}
-use lib.ListN.{length, take}
+use mathlib.Core.Bool.{Bool}
+use mathlib.Core.List.{List}
+use Prim.Native.Nat.{ℕ, _/_}
+use lib.Dec.{eqb}
+use lib.ListN.{length}
 use Rattle.layers.specs.Layers.{layers}
 use Rattle.buffers.specs.Written.{written}
 use Rattle.columns.specs.declared.symbol.Symbol.{Symbol}
+use Rattle.columns.specs.Stored.{storedWords}
 use Rattle.answers.specs.declared.flat.Answer.{Answer}
 use Rattle.answers.specs.Flat.{accepted, notAccepted}
 use Rattle.rulings.specs.Rulings.{lineOf}
@@ -46,14 +47,10 @@ wordsBy line.typeReplaced offered ws = written offered ws
 wordsBy line.bothReplaced offered ws = written offered ws
 wordsBy line.conflicting offered ws = ws
 
--- The words of the stored type: the first three for each layer. No words where they are not there.
-unfoldable pub storedOf : ℕ → List ℕ → List ℕ
-storedOf n ws = cond (ltb (length ws / 3) n) [] (take (n * 3) ws)
-
 -- The line that applies to a record, its words, the new identifier's authority and the offered words. "2 poisoned"
 abbrev pub lineAt : Symbol → List ℕ → Bool → List ℕ → Line
 lineAt s ws authority offered =
-    lineOf (eqb (s .state) 2) (s .authority) authority (layers (storedOf (s .layers) ws)) (layers offered)
+    lineOf (eqb (s .state) 2) (s .authority) authority (layers (storedWords (s .layers) ws)) (layers offered)
 
 unfoldable pub updated : Symbol → List ℕ → ℕ → Bool → ℕ → List ℕ → Updated
 updated s ws id authority place offered =
