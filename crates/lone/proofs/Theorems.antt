@@ -1,11 +1,11 @@
 -- What follows from the rule of a lone record alone.
 -- Assumes nothing.
-use mathlib.Core.Path.{_≡_, refl}
-use mathlib.Core.Bool.{Bool, true, false, cond, _&&_, false≢true}
+use mathlib.Core.Path.{_≡_, refl, sym, ap, subst, _∙_}
+use mathlib.Core.Bool.{Bool, true, false, cond, not, _&&_, _||_, false≢true}
 use mathlib.Core.List.{List}
 use Prim.Native.Nat.{ℕ, _/_, _%_, _≤_}
 use native.Mathlib.Omega.{arith}
-use lib.Dec.{eqb, leb}
+use lib.Dec.{T, eqb, leb}
 use lib.ListN.{length, take}
 use lib.Seq.{take-all}
 use borrow.Author.Tests.{eqb-true}
@@ -18,6 +18,7 @@ use Rattle.buffers.specs.Written.{written}
 use Rattle.buffers.proofs.Writing.{length-written}
 use Rattle.orders.specs.Order as order
 use Rattle.columns.specs.declared.symbol.Symbol.{Symbol}
+use Rattle.answers.specs.declared.flat.Answer.{Answer}
 use Rattle.updates.specs.Updates.{typed, updated, wordsAfter}
 use Rattle.updates.specs.declared.record.Updated.{Updated}
 use Rattle.updates.proofs.Cases.{by-lines}
@@ -91,3 +92,21 @@ module _ (s : Symbol) (ws : List ℕ) (id : ℕ) (authority : Bool) (place : ℕ
         rw pass
         (by-lines s ws id authority place offered (λ t u a. loneInOrder t u ≡ true) o o
         (in-order-typed (s .id) (s .authority) (s .place)) (in-order-typed id authority place) o)
+
+-- An answer that tells of no change: a refusal, or value 0. Of such an update the symbol is what it was.
+abbrev pub quiet : Answer → Bool
+quiet a = not (eqb (a .refusal) 0) || eqb (a .value) 0
+
+silent : (a : Answer) → T (quiet a) → a .refusal ≡ 0 → a .value ≡ 0
+silent a q e = by-value (eqb (a .value) 0) refl (rw e at q)
+  where
+    by-value : (t : Bool) → eqb (a .value) 0 ≡ t → T t → a .value ≡ 0
+    by-value true f g = eqb-true (a .value) 0 f
+    by-value false f g = absurd g
+
+pub still : (s : Symbol) (ws : List ℕ) (id : ℕ) (authority : Bool) (place : ℕ) (offered : List ℕ) (r : Updated) →
+    r ≡ loneUpdated s ws id authority place offered → T (quiet (r .answer)) → s ≡ r .symbol
+still s ws id authority place offered r e q =
+    let same = ap (λ (u : Updated). u .answer) e in
+    sym (lone-unchanged s ws id authority place offered (silent (loneUpdated s ws id authority place offered .answer) (subst (λ (a : Answer). T (quiet a)) same q)) .0)
+    ∙ sym (ap (λ (u : Updated). u .symbol) e)

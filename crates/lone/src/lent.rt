@@ -54,7 +54,7 @@ pub fn update_lone(
     update(s, words, id, authority, place, offered)
 }
 
-// The same, of a symbol that is lent.
+// The same, of a symbol that is lent. Where nothing changes nothing is stored.
 pub fn do_update_symbol(
     symbol: &mut Symbol,
     words: &mut [u64],
@@ -69,6 +69,10 @@ pub fn do_update_symbol(
 {
     let s = *symbol;
     let u = update_lone(s, words, id, authority, place, offered);
+    let a = u.answer;
+    if (a.refusal != 0) | (a.value == 0) {
+        return a;
+    }
     *symbol = u.symbol;
-    u.answer
+    a
 }
