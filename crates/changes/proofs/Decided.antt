@@ -1,27 +1,34 @@
 -- What is done to the record of a slot that was chosen, as the core meets it: in a table that is read out of columns.
 -- Assumes nothing.
-use mathlib.Core.Path.{_≡_, sym, ap, subst, _∙_}
+use mathlib.Core.Path.{_≡_, refl, sym, ap, subst, _∙_}
 use mathlib.Core.Bool.{Bool, true, false}
-use mathlib.Core.List.{List, [], _++_, append-nil}
-use Prim.Native.Nat.{ℕ, _-_, _*_, _≤_, _<_}
+use mathlib.Core.List.{List, _++_}
+use Prim.Native.Nat.{ℕ, _+_, _-_, _*_, _≤_, _<_}
 use native.Mathlib.Omega.{arith}
-use lib.ListN.{length, take, drop, getD, length-drop, drop-of-length-le}
-use lib.Seq.{take-all}
+use lib.ListN.{length, take, drop, getD}
 use mir.Syntax.{w64}
 use mir.Val.{Fits}
 use Rattle.columns.specs.declared.symbol.Symbol.{Symbol}
 use Rattle.columns.specs.Rows.{vacant, readFrom, rowUnder}
+use Rattle.orders.specs.Order.{inOrder}
 use Rattle.columns.proofs.Reading.{length-read, row-found}
 use Rattle.answers.specs.declared.flat.Answer.{Answer}
 use Rattle.answers.specs.Flat.{accepted, notAccepted}
 use Rattle.updates.specs.declared.record.Updated.{Updated}
+use Rattle.operations.specs.Act.{Act}
+use Rattle.operations.specs.Operation as operation
+use Rattle.operations.specs.Operation.{acts}
+use Rattle.operations.specs.Operations.{ofOperation, ofAsked}
 use Rattle.operations.specs.declared.operation.Operation.{Operation}
+use Rattle.operations.specs.declared.operation.Asked.{Asked}
+use Rattle.operations.specs.declared.operation.Asked.the-variants as asked
+use Rattle.ways.specs.Way as way
+use Rattle.ways.specs.Ways.{wayOf, ofWay}
 use Rattle.ways.specs.declared.slot.Way.{Way}
-use Rattle.ways.specs.declared.slot.Way.the-variants as way
-use Rattle.ways.specs.Ways.{wayOf}
+use Rattle.ways.specs.declared.slot.Way.the-variants as code
 use Rattle.ways.proofs.Decided.{Within, found-in, found-has, new-in}
 use Rattle.slots.specs.Deeds.{filled, filledWords, overwrites, seen}
-use Rattle.changes.specs.Changes.{outcomeBy, nowhere, isChanged, inSlot, ifChanged, changeOf, storeOf}
+use Rattle.changes.specs.Changes.{outcomeBy, nothingPut, outcome, nowhere, isChanged, inSlot, ifChanged, changeOf, storeOf}
 use Rattle.changes.specs.declared.change.Change.{Change}
 
 -- a record that was found
@@ -32,99 +39,127 @@ module _ (n k : ℕ) (u : Updated) (t : Bool) (e : t ≡ isChanged (u .answer)) 
   pub is-kept : (r : Change) → t ≡ false → r ≡ nowhere n (u .answer) → r ≡ ifChanged n k u
   is-kept r h q = rw (← e, h) q
 
-module _ (op : Operation) (id : ℕ) (authority : Bool) (place mark : ℕ) (offered flat : List ℕ) (n : ℕ) (store : List ℕ) (w : Way)
-    (e : w ≡ wayOf op id offered (readFrom flat 0 n) store) where
+-- a put with nothing
+module _ (n : ℕ) (table : List Symbol) (store : List ℕ) (o : Bool) (e : o ≡ inOrder table store) where
+  pub is-accepted : (a : Answer) (r : Change) → o ≡ true → a ≡ accepted 0 → r ≡ nowhere n a → r ≡ nowhere n (nothingPut table store)
+  is-accepted a r f h q = rw (← e, f, ← h) q
+
+  pub is-refused : (a : Answer) (r : Change) → o ≡ false → a ≡ notAccepted 12 0 → r ≡ nowhere n a → r ≡ nowhere n (nothingPut table store)
+  is-refused a r f h q = rw (← e, f, ← h) q
+
+module _ (act : Act) (id : ℕ) (authority : Bool) (place mark : ℕ) (offered flat : List ℕ) (n : ℕ) (store : List ℕ) (w : Way)
+    (e : ofWay w ≡ wayOf act id offered (readFrom flat 0 n) store) where
   abbrev table : List Symbol
   table = readFrom flat 0 n
 
-  abbrev tail : ℕ → List ℕ
-  tail k = take (length store - k * 48) (drop (k * 48) store)
+  -- the slot's part, as the code lends it
+  abbrev lent : ℕ → List ℕ
+  lent k = take (k * 48 + 48 - k * 48) (drop (k * 48) store)
 
-  tail-is : (k : ℕ) → tail k ≡ drop (k * 48) store
-  tail-is k = take-all (length store - k * 48) (drop (k * 48) store) (simp length-drop (omega arith))
+  one-slot : (k : ℕ) → k * 48 + 48 - k * 48 ≡ 48
+  one-slot k = omega arith
 
-  no-more : (k : ℕ) → drop (length store - k * 48) (drop (k * 48) store) ≡ []
-  no-more k =
-      let short : length (drop (k * 48) store) ≤ length store - k * 48 = simp length-drop (omega arith) in
-      drop-of-length-le (drop (k * 48) store) short
+  store-by : (v : Way) → w ≡ v → outcomeBy (ofWay v) act id authority place mark offered table store .store ≡ storeOf (acts act) id authority place mark offered table store
+  unfolding storeOf outcome
+  store-by v h = ap (λ (x : way.Way). outcomeBy x act id authority place mark offered table store .store) (ap ofWay (sym h) ∙ e)
 
-  store-by : (v : Way) → w ≡ v → outcomeBy v op id authority place mark offered table store .store ≡ storeOf op id authority place mark offered table store
-  unfolding storeOf
-  store-by v h = ap (λ (x : Way). outcomeBy x op id authority place mark offered table store .store) (sym h ∙ e)
-
-  near : (k : ℕ) → Within table store k → (k < 128) × (k * 48 ≤ length store)
+  near : (k : ℕ) → Within table store k → (k < 128) × (k * 48 + 48 ≤ length store)
   near k i =
       let m = length-read flat 0 n in
       (omega (arith, i .below, i .order .few), omega (arith, i .below, i .order .full))
 
-  module _ (j p : ℕ) (h : w ≡ way.Refused j p) where
+  module _ (j p : ℕ) (h : w ≡ code.Refused j p) where
     pub chose-refused : (a : Answer) (r : Change) → a ≡ notAccepted j p → r ≡ nowhere n a →
-        r ≡ changeOf op id authority place mark offered table store
+        r ≡ changeOf (acts act) id authority place mark offered table store
     unfolding changeOf
     chose-refused a r i q = rw (← e, h, length-read flat 0 n, ← i) q
 
-    pub kept-refused : store ≡ storeOf op id authority place mark offered table store
-    kept-refused = store-by (way.Refused j p) h
-
-  module _ (h : w ≡ way.Kept) where
-    pub chose-kept : (a : Answer) (r : Change) → a ≡ accepted 0 → r ≡ nowhere n a →
-        r ≡ changeOf op id authority place mark offered table store
-    unfolding changeOf
-    chose-kept a r i q = rw (← e, h, length-read flat 0 n, ← i) q
-
-    pub kept-all : store ≡ storeOf op id authority place mark offered table store
-    kept-all = store-by way.Kept h
+    pub kept-refused : store ≡ storeOf (acts act) id authority place mark offered table store
+    kept-refused = store-by (code.Refused j p) h
 
   module _ (k : ℕ) where
-    module _ (h : w ≡ way.Found k) where
+    module _ (h : w ≡ code.Found k) where
       found : Within table store k
-      found = found-in op id offered table store k (sym e ∙ h)
+      found = found-in act id offered table store k (sym e ∙ ap ofWay h)
 
       pub found-fits : Fits w64 (k * 48)
       found-fits = record { fits = omega (arith, near k found .0) }
 
+      pub found-ends : Fits w64 (k * 48 + 48)
+      found-ends = record { fits = omega (arith, near k found .0) }
+
       pub found-bytes : Fits w64 (k * 48 * 8)
       found-bytes = record { fits = omega (arith, near k found .0) }
 
-      pub found-part : k * 48 ≤ length store
+      pub found-part : k * 48 + 48 ≤ length store
       found-part = near k found .1
 
       row-is : (s : Symbol) → s ≡ rowUnder flat k id → s ≡ getD table k vacant
       row-is s q =
           let m = length-read flat 0 n in
           row-found flat n id k s (subst (λ (j : ℕ). j ≤ 128) m (found .order .few)) (subst (λ (j : ℕ). k < j) m (found .below))
-          (found-has op id offered table store k (sym e ∙ h)) q
+          (found-has act id offered table store k (sym e ∙ ap ofWay h)) q
 
       module _ (s : Symbol) (u : Updated) (after : List ℕ) (q : s ≡ rowUnder flat k id)
-          (d : u ≡ seen (overwrites op s (tail k) id authority place mark offered)) where
-        pub chose-found : (r : Change) → r ≡ ifChanged n k u → r ≡ changeOf op id authority place mark offered table store
+          (d : u ≡ seen (overwrites act s (lent k) id authority place mark offered)) where
+        pub chose-found : (r : Change) → r ≡ ifChanged n k u → r ≡ changeOf (acts act) id authority place mark offered table store
         unfolding changeOf
-        chose-found r i = i ∙ (rw (← e, h, d, tail-is k, row-is s q, length-read flat 0 n))
+        chose-found r i = i ∙ (rw (← e, h, d, one-slot k, row-is s q, length-read flat 0 n))
 
-        pub kept-found : after ≡ overwrites op s (tail k) id authority place mark offered .words →
-            take (k * 48) store ++ (after ++ drop (length store - k * 48) (drop (k * 48) store))
-            ≡ storeOf op id authority place mark offered table store
-        kept-found g = (rw (no-more k, append-nil, g, tail-is k, row-is s q)) ∙ store-by (way.Found k) h
+        pub kept-found : after ≡ overwrites act s (lent k) id authority place mark offered .words →
+            take (k * 48) store ++ (after ++ drop (k * 48 + 48 - k * 48) (drop (k * 48) store))
+            ≡ storeOf (acts act) id authority place mark offered table store
+        kept-found g = (rw (g, one-slot k, row-is s q)) ∙ store-by (code.Found k) h
 
-    module _ (h : w ≡ way.Free k) where
+    module _ (h : w ≡ code.Free k) where
       new : Within table store k
-      new = new-in op id offered table store k (sym e ∙ h)
+      new = new-in act id offered table store k (sym e ∙ ap ofWay h)
 
       pub new-fits : Fits w64 (k * 48)
       new-fits = record { fits = omega (arith, near k new .0) }
 
+      pub new-ends : Fits w64 (k * 48 + 48)
+      new-ends = record { fits = omega (arith, near k new .0) }
+
       pub new-bytes : Fits w64 (k * 48 * 8)
       new-bytes = record { fits = omega (arith, near k new .0) }
 
-      pub new-part : k * 48 ≤ length store
+      pub new-part : k * 48 + 48 ≤ length store
       new-part = near k new .1
 
-      pub chose-new : (s : Symbol) (a : Answer) → s ≡ filled op id authority place mark offered → a ≡ accepted 3 →
-          record { slot = k; symbol = s; answer = a } ≡ changeOf op id authority place mark offered table store
+      pub chose-new : (s : Symbol) (a : Answer) → s ≡ filled act id authority place mark offered → a ≡ accepted 3 →
+          record { slot = k; symbol = s; answer = a } ≡ changeOf (acts act) id authority place mark offered table store
       unfolding changeOf
       chose-new s a q i = rw (← e, h, q, i)
 
-      pub kept-new : (after : List ℕ) → after ≡ filledWords op offered (tail k) →
-          take (k * 48) store ++ (after ++ drop (length store - k * 48) (drop (k * 48) store))
-          ≡ storeOf op id authority place mark offered table store
-      kept-new after g = (rw (no-more k, append-nil, g, tail-is k)) ∙ store-by (way.Free k) h
+      pub kept-new : (after : List ℕ) → after ≡ filledWords act offered (lent k) →
+          take (k * 48) store ++ (after ++ drop (k * 48 + 48 - k * 48) (drop (k * 48) store))
+          ≡ storeOf (acts act) id authority place mark offered table store
+      kept-new after g = (rw (g, one-slot k)) ∙ store-by (code.Free k) h
+
+-- what the operation asks for, as the code found it
+module _ (op : Operation) (x k : Asked) (e : ofAsked x ≡ ofOperation op) (h : x ≡ k) (id : ℕ) (authority : Bool) (place mark : ℕ) (offered : List ℕ)
+    (table : List Symbol) (store : List ℕ) where
+  is-asked : ofAsked k ≡ ofOperation op
+  is-asked = ap ofAsked (sym h) ∙ e
+
+  pub change-by : (r : Change) → r ≡ changeOf (ofAsked k) id authority place mark offered table store →
+      r ≡ changeOf (ofOperation op) id authority place mark offered table store
+  change-by r q = q ∙ ap (λ (o : operation.Operation). changeOf o id authority place mark offered table store) is-asked
+
+  pub store-after : (after : List ℕ) → after ≡ storeOf (ofAsked k) id authority place mark offered table store →
+      after ≡ storeOf (ofOperation op) id authority place mark offered table store
+  store-after after q = q ∙ ap (λ (o : operation.Operation). storeOf o id authority place mark offered table store) is-asked
+
+-- nothing is put
+module _ (op : Operation) (x : Asked) (e : ofAsked x ≡ ofOperation op) (h : x ≡ asked.Nothing) (id : ℕ) (authority : Bool) (place mark : ℕ) (offered flat : List ℕ)
+    (n : ℕ) (store : List ℕ) where
+  pub nothing-changes : (r : Change) → r ≡ nowhere n (nothingPut (readFrom flat 0 n) store) →
+      r ≡ changeOf (ofOperation op) id authority place mark offered (readFrom flat 0 n) store
+  unfolding changeOf
+  nothing-changes r q =
+      change-by op x asked.Nothing e h id authority place mark offered (readFrom flat 0 n) store r (rw (length-read flat 0 n) q)
+
+  pub nothing-stored : store ≡ storeOf (ofOperation op) id authority place mark offered (readFrom flat 0 n) store
+  unfolding storeOf outcome
+  nothing-stored = store-after op x asked.Nothing e h id authority place mark offered (readFrom flat 0 n) store store refl

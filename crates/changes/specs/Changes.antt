@@ -6,21 +6,24 @@ use lib.Dec.{eqb}
 use lib.ListN.{length, take, drop, getD, set}
 use Rattle.columns.specs.declared.symbol.Symbol.{Symbol}
 use Rattle.columns.specs.Rows.{vacant}
+use Rattle.columns.specs.Stored.{slotWords}
+use Rattle.orders.specs.Order.{inOrder}
 use Rattle.answers.specs.declared.flat.Answer.{Answer}
 use Rattle.answers.specs.Flat.{accepted, notAccepted}
 use Rattle.updates.specs.declared.record.Updated.{Updated}
-use Rattle.operations.specs.declared.operation.Operation.{Operation}
-use Rattle.ways.specs.declared.slot.Way.{Way}
-use Rattle.ways.specs.declared.slot.Way.the-variants as way
+use Rattle.operations.specs.Act.{Act}
+use Rattle.operations.specs.Operation.{Operation, putNothing, acts}
+use Rattle.ways.specs.Way as way
+use Rattle.ways.specs.Way.{Way}
 use Rattle.ways.specs.Ways.{wayOf}
 use Rattle.slots.specs.Deeds.{Deed, deed, overwrites, filled, filledWords, seen}
 use Rattle.changes.specs.declared.change.Change.{Change}
 
 -- What is done to the first free record. "Put of poison: .. or inserts. Put of a type under a new id inserts it, well
 -- formed or not. Forward declaration overwrites or inserts." Value 3: a record was inserted.
-abbrev pub inserts : Operation → List ℕ → ℕ → Bool → ℕ → ℕ → List ℕ → Deed
-inserts op ws id authority place mark offered =
-    deed (filled op id authority place mark offered) (filledWords op offered ws) (accepted 3)
+abbrev pub inserts : Act → List ℕ → ℕ → Bool → ℕ → ℕ → List ℕ → Deed
+inserts a ws id authority place mark offered =
+    deed (filled a id authority place mark offered) (filledWords a offered ws) (accepted 3)
 
 -- An operation's outcome: the answer, and what the table and the store hold then.
 pub record Outcome : Type 0 where
@@ -28,25 +31,32 @@ pub record Outcome : Type 0 where
   pub table : List Symbol
   pub store : List ℕ
 
--- "Slot k's type stands in a lent store of words from 48k on."
+-- "Slot k's type stands in a lent store of words from 48k on.": the store with other words in slot k.
+abbrev pub withSlot : List ℕ → ℕ → List ℕ → List ℕ
+withSlot store k ws = take (k * 48) store ++ (ws ++ drop 48 (drop (k * 48) store))
+
 abbrev pub atSlot : ℕ → Deed → List Symbol → List ℕ → Outcome
 atSlot k d table store =
-    record { answer = d .answer; table = set table k (d .symbol); store = take (k * 48) store ++ d .words }
+    record { answer = d .answer; table = set table k (d .symbol); store = withSlot store k (d .words) }
 
 -- "Every refusal returns its number and a place (0 unless named) and changes nothing lent."
-abbrev pub outcomeBy : Way → Operation → ℕ → Bool → ℕ → ℕ → List ℕ → List Symbol → List ℕ → Outcome
-outcomeBy (way.Refused n p) op id authority place mark offered table store =
+abbrev pub outcomeBy : Way → Act → ℕ → Bool → ℕ → ℕ → List ℕ → List Symbol → List ℕ → Outcome
+outcomeBy (way.refused n p) a id authority place mark offered table store =
     record { answer = notAccepted n p; table = table; store = store }
-outcomeBy way.Kept op id authority place mark offered table store =
-    record { answer = accepted 0; table = table; store = store }
-outcomeBy (way.Found k) op id authority place mark offered table store =
-    atSlot k (overwrites op (getD table k vacant) (drop (k * 48) store) id authority place mark offered) table store
-outcomeBy (way.Free k) op id authority place mark offered table store =
-    atSlot k (inserts op (drop (k * 48) store) id authority place mark offered) table store
+outcomeBy (way.found k) a id authority place mark offered table store =
+    atSlot k (overwrites a (getD table k vacant) (slotWords store k) id authority place mark offered) table store
+outcomeBy (way.free k) a id authority place mark offered table store =
+    atSlot k (inserts a (slotWords store k) id authority place mark offered) table store
+
+-- "Put with nothing: accepted, unchanged." "12 table not in order"
+abbrev pub nothingPut : List Symbol → List ℕ → Answer
+nothingPut table store = cond (inOrder table store) (accepted 0) (notAccepted 12 0)
 
 unfoldable pub outcome : Operation → ℕ → Bool → ℕ → ℕ → List ℕ → List Symbol → List ℕ → Outcome
-outcome op id authority place mark offered table store =
-    outcomeBy (wayOf op id offered table store) op id authority place mark offered table store
+outcome putNothing id authority place mark offered table store =
+    record { answer = nothingPut table store; table = table; store = store }
+outcome (acts a) id authority place mark offered table store =
+    outcomeBy (wayOf a id offered table store) a id authority place mark offered table store
 
 -- The same as the code's core hands it back: the slot and its new record; past the last slot, none.
 abbrev pub nowhere : ℕ → Answer → Change
@@ -63,18 +73,17 @@ isChanged a = eqb (a .refusal) 0 && not (eqb (a .value) 0)
 abbrev pub ifChanged : ℕ → ℕ → Updated → Change
 ifChanged n k u = cond (isChanged (u .answer)) (inSlot k u) (nowhere n (u .answer))
 
-abbrev pub changeBy : Way → Operation → ℕ → Bool → ℕ → ℕ → List ℕ → List Symbol → List ℕ → Change
-changeBy (way.Refused n p) op id authority place mark offered table store = nowhere (length table) (notAccepted n p)
-changeBy way.Kept op id authority place mark offered table store = nowhere (length table) (accepted 0)
-changeBy (way.Found k) op id authority place mark offered table store =
-    ifChanged (length table) k (seen (overwrites op (getD table k vacant) (drop (k * 48) store) id authority place mark offered))
-changeBy (way.Free k) op id authority place mark offered table store =
-    inSlot k (seen (inserts op (drop (k * 48) store) id authority place mark offered))
+abbrev pub changeBy : Way → Act → ℕ → Bool → ℕ → ℕ → List ℕ → List Symbol → List ℕ → Change
+changeBy (way.refused n p) a id authority place mark offered table store = nowhere (length table) (notAccepted n p)
+changeBy (way.found k) a id authority place mark offered table store =
+    ifChanged (length table) k (seen (overwrites a (getD table k vacant) (slotWords store k) id authority place mark offered))
+changeBy (way.free k) a id authority place mark offered table store =
+    inSlot k (seen (inserts a (slotWords store k) id authority place mark offered))
 
 unfoldable pub changeOf : Operation → ℕ → Bool → ℕ → ℕ → List ℕ → List Symbol → List ℕ → Change
-changeOf op id authority place mark offered table store =
-    changeBy (wayOf op id offered table store) op id authority place mark offered table store
+changeOf putNothing id authority place mark offered table store = nowhere (length table) (nothingPut table store)
+changeOf (acts a) id authority place mark offered table store =
+    changeBy (wayOf a id offered table store) a id authority place mark offered table store
 
 unfoldable pub storeOf : Operation → ℕ → Bool → ℕ → ℕ → List ℕ → List Symbol → List ℕ → List ℕ
-storeOf op id authority place mark offered table store =
-    outcomeBy (wayOf op id offered table store) op id authority place mark offered table store .store
+storeOf op id authority place mark offered table store = outcome op id authority place mark offered table store .store

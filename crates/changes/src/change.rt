@@ -3,7 +3,11 @@ use answers::accepted;
 use answers::refused;
 use columns::Symbol;
 use columns::row;
+use operations::Act;
+use operations::Asked;
 use operations::Operation;
+use operations::act_of;
+use orders::in_order;
 use slots::fill;
 use slots::overwrite;
 use updates::Updated;
@@ -11,6 +15,8 @@ use ways::Way;
 use ways::way_of;
 ghost use mathlib.Core.Path.{_≡_};
 ghost use Rattle.columns.specs.Rows.{readFrom};
+ghost use Rattle.operations.specs.Operation.{acts};
+ghost use Rattle.operations.specs.Operations.{ofAct, ofOperation};
 ghost use Rattle.changes.specs.Changes as rules;
 
 // A slot and its new record, with the answer. Past the last slot: no record is stored.
@@ -61,7 +67,55 @@ fn if_changed(n: usize, slot: usize, u: Updated) -> Change
     }
 }
 
-// The change of a table that is given by its columns. The store's part is lent on, and written there.
+// A put with nothing: the table is judged, and that is all.
+fn keep(flat: &[u64; 768], n: usize, store: &[u64]) -> Change
+    ensures { λ r. ⌜ r ≡ rules.nowhere n (rules.nothingPut (readFrom (now (flat .entry)) 0 n) (now (store .entry))) ⌝ }
+{
+    if in_order(flat, n, store) {
+        nowhere(n, accepted(0))
+    } else {
+        nowhere(n, refused(12, 0))
+    }
+}
+
+// An act in a table that is given by its columns. The slot's part of the store is lent on, and written there.
+fn act_in(
+    act: Act,
+    flat: &[u64; 768],
+    n: usize,
+    store: &mut [u64],
+    id: u32,
+    authority: bool,
+    place: u64,
+    mark: u64,
+    offered: &[u64],
+) -> Change
+    ensures { λ r. ⌜ (r ≡ rules.changeOf (acts (ofAct act)) id authority place mark (now (offered .entry)) (readFrom (now (flat .entry)) 0 n) (now (store .entry)))
+        × (now (store .exit) ≡ rules.storeOf (acts (ofAct act)) id authority place mark (now (offered .entry)) (readFrom (now (flat .entry)) 0 n) (now (store .entry))) ⌝ }
+{
+    match way_of(act, flat, n, store, id, offered) {
+        Way::Refused { number, place: at } => nowhere(n, refused(number, at)),
+        Way::Found(at) => {
+            let from = at * 48;
+            let s = row(flat, at, id);
+            let slot = &mut store[from..from + 48];
+            let u = overwrite(act, s, slot, id, authority, place, mark, offered);
+            if_changed(n, at, u)
+        }
+        Way::Free(at) => {
+            let from = at * 48;
+            let slot = &mut store[from..from + 48];
+            let symbol = fill(act, slot, id, authority, place, mark, offered);
+            Change {
+                slot: at,
+                symbol,
+                answer: accepted(3),
+            }
+        }
+    }
+}
+
+// The change of a table that is given by its columns.
 pub fn choose(
     flat: &[u64; 768],
     n: usize,
@@ -73,43 +127,11 @@ pub fn choose(
     mark: u64,
     offered: &[u64],
 ) -> Change
-    ensures { λ r. ⌜ (r ≡ rules.changeOf operation id authority place mark (now (offered .entry)) (readFrom (now (flat .entry)) 0 n) (now (store .entry)))
-        × (now (store .exit) ≡ rules.storeOf operation id authority place mark (now (offered .entry)) (readFrom (now (flat .entry)) 0 n) (now (store .entry))) ⌝ }
+    ensures { λ r. ⌜ (r ≡ rules.changeOf (ofOperation operation) id authority place mark (now (offered .entry)) (readFrom (now (flat .entry)) 0 n) (now (store .entry)))
+        × (now (store .exit) ≡ rules.storeOf (ofOperation operation) id authority place mark (now (offered .entry)) (readFrom (now (flat .entry)) 0 n) (now (store .entry))) ⌝ }
 {
-    match way_of(operation, flat, n, store, id, offered) {
-        Way::Refused { number, place: at } => nowhere(n, refused(number, at)),
-        Way::Kept => nowhere(n, accepted(0)),
-        Way::Found(at) => {
-            let from = at * 48;
-            let s = row(flat, at, id);
-            let u = overwrite(
-                operation,
-                s,
-                &mut store[from..],
-                id,
-                authority,
-                place,
-                mark,
-                offered,
-            );
-            if_changed(n, at, u)
-        }
-        Way::Free(at) => {
-            let from = at * 48;
-            let symbol = fill(
-                operation,
-                &mut store[from..],
-                id,
-                authority,
-                place,
-                mark,
-                offered,
-            );
-            Change {
-                slot: at,
-                symbol,
-                answer: accepted(3),
-            }
-        }
+    match act_of(operation) {
+        Asked::Nothing => keep(flat, n, store),
+        Asked::Acts(act) => { act_in(act, flat, n, store, id, authority, place, mark, offered) }
     }
 }

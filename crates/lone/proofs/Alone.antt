@@ -3,12 +3,12 @@
 use mathlib.Core.Path.{_≡_, refl, sym, ap, _∙_}
 use mathlib.Core.Bool.{Bool, true, false, cond, not, _&&_, true≢false}
 use mathlib.Core.List.{List, [], _∷_}
-use Prim.Native.Nat.{ℕ, _*_, _<_, _≤_}
+use Prim.Native.Nat.{ℕ, _<_}
 use native.Mathlib.Omega.{arith}
 use lib.Dec.{eqb, leb}
 use lib.ListN.{length, take}
-use lib.Seq.{length-take-le}
-use borrow.Author.Tests.{eqb-false, ne-eqb, lt-leb, le-leb, not-true, not-false}
+use lib.Seq.{take-all}
+use borrow.Author.Tests.{eqb-false, ne-eqb, lt-leb, not-true, not-false}
 use Rattle.layers.specs.Answer as paper
 use Rattle.layers.specs.Answer.{given, refused, ofChecked, next}
 use Rattle.checks.proofs.Refusals.{passed}
@@ -17,6 +17,7 @@ use Rattle.layers.specs.declared.answers.Checked.{Checked}
 use Rattle.layers.specs.declared.answers.Checked.the-variants.{Good, Refused}
 use Rattle.orders.specs.Order.{knownStates, allFree, takenFirst, taken, hasId, repeats, passes, allPass, inOrder}
 use Rattle.columns.specs.declared.symbol.Symbol.{Symbol}
+use Rattle.columns.specs.Stored.{storedWords}
 use Rattle.answers.specs.declared.flat.Answer.{Answer}
 use Rattle.answers.specs.Flat.{notAccepted, flat}
 use Rattle.updates.specs.Updates.{updated, wordsAfter}
@@ -26,9 +27,9 @@ use Rattle.updates.specs.declared.record.Updated.{Updated}
 -- a table of one record
 module _ (s : Symbol) (ws : List ℕ) where
   pub one : loneInOrder s ws
-      ≡ cond (eqb (length ws) 48) (cond (eqb (s .state) 0) false (leb (s .state) 2 && passes (s .state) (s .layers) ws)) false
+      ≡ cond (eqb (length ws) 48) (cond (eqb (s .state) 0) false (leb (s .state) 2 && passes (s .state) (s .layers) (take 48 ws))) false
   unfolding loneInOrder inOrder knownStates takenFirst allFree taken repeats hasId allPass
-  one = by-tests (eqb (s .state) 0) (leb (s .state) 2) (passes (s .state) (s .layers) ws) (eqb (length ws) 48)
+  one = by-tests (eqb (s .state) 0) (leb (s .state) 2) (passes (s .state) (s .layers) (take 48 ws)) (eqb (length ws) 48)
     where
       by-tests : (f k p l : Bool) →
           ((k && true) && cond f true true && not (repeats (cond f [] (s ∷ []))) && (p && true) && l && not f)
@@ -65,17 +66,9 @@ module _ (s : Symbol) (ws : List ℕ) where
               rw (one, h, e, lt-leb (s .state) 2 over)
 
       module _ (t : s .state ≡ 1) where
-        pub too-many : 16 < s .layers → false ≡ loneInOrder s ws
+        pub typed-fits : (stored : List ℕ) (r : Bool) → stored ≡ storedWords (s .layers) ws → r ≡ isGood (checkOf stored) → r ≡ loneInOrder s ws
         unfolding passes
-        too-many m = rw (one, h, t, lt-leb (s .layers) 16 m)
-
-        module _ (m : s .layers ≤ 16) where
-          pub in-words : s .layers * 3 ≡ length (take (s .layers * 3) ws)
-          in-words = sym (length-take-le (s .layers * 3) ws (omega arith))
-
-          pub typed-fits : (r : Bool) → r ≡ isGood (checkOf (take (s .layers * 3) ws)) → r ≡ loneInOrder s ws
-          unfolding passes
-          typed-fits r f = rw (one, h, t, le-leb (s .layers) 16 m, f)
+        typed-fits stored r q f = rw (one, h, t, take-all 48 ws (omega (arith, h)), ← q, f)
 
 -- g is whether the offered words pass the checks
 module _ (s : Symbol) (ws : List ℕ) (authority : Bool) (offered : List ℕ) (g : Bool) (e : g ≡ isGood (checkOf offered)) where

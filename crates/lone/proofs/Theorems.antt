@@ -1,13 +1,14 @@
 -- What follows from the rule of a lone record alone.
 -- Assumes nothing.
-use mathlib.Core.Path.{_≡_, refl}
-use mathlib.Core.Bool.{Bool, true, false, cond, _&&_, false≢true}
+use mathlib.Core.Path.{_≡_, refl, sym, ap, subst, _∙_}
+use mathlib.Core.Bool.{Bool, true, false, cond, not, _&&_, _||_, false≢true}
 use mathlib.Core.List.{List}
 use Prim.Native.Nat.{ℕ, _/_, _%_, _≤_}
 use native.Mathlib.Omega.{arith}
-use lib.Dec.{eqb, leb}
-use lib.ListN.{length}
-use borrow.Author.Tests.{eqb-true, le-leb}
+use lib.Dec.{T, eqb, leb}
+use lib.ListN.{length, take}
+use lib.Seq.{take-all}
+use borrow.Author.Tests.{eqb-true}
 use Rattle.layers.specs.Layers.{layers}
 use Rattle.layers.specs.Answer as paper
 use Rattle.layers.specs.Answer.{given, nothing, refused, next}
@@ -17,9 +18,9 @@ use Rattle.buffers.specs.Written.{written}
 use Rattle.buffers.proofs.Writing.{length-written}
 use Rattle.orders.specs.Order as order
 use Rattle.columns.specs.declared.symbol.Symbol.{Symbol}
+use Rattle.answers.specs.declared.flat.Answer.{Answer}
 use Rattle.updates.specs.Updates.{typed, updated, wordsAfter}
 use Rattle.updates.specs.declared.record.Updated.{Updated}
-use Rattle.updates.proofs.Parts.{present}
 use Rattle.updates.proofs.Cases.{by-lines}
 use Rattle.updates.proofs.Theorems.{stored-written, unchanged}
 use Rattle.lone.specs.Lone.{loneInOrder, loneCheck, unlessRefused, loneUpdated, keptWhereRefused, loneWordsAfter}
@@ -72,7 +73,7 @@ module _ (s : Symbol) (ws : List ℕ) (id : ℕ) (authority : Bool) (place : ℕ
     all = by-count (eqb (length ws) 48) refl (rw (one s ws) at o)
       where
         by-count : (l : Bool) → eqb (length ws) 48 ≡ l →
-            cond l (cond (eqb (s .state) 0) false (leb (s .state) 2 && order.passes (s .state) (s .layers) ws)) false ≡ true → length ws ≡ 48
+            cond l (cond (eqb (s .state) 0) false (leb (s .state) 2 && order.passes (s .state) (s .layers) (take 48 ws))) false ≡ true → length ws ≡ 48
         by-count true i f = eqb-true (length ws) 48 i
         by-count false i f = absurd (false≢true f)
 
@@ -81,9 +82,8 @@ module _ (s : Symbol) (ws : List ℕ) (id : ℕ) (authority : Bool) (place : ℕ
     in-order-typed i a p =
         let c = counted offered e in
         let few : length offered ≤ length ws = omega (arith, c .0, all) in
-        let small : length offered / 3 ≤ 16 = omega (arith, c .0) in
-        let room : length offered / 3 ≤ length (written offered ws) / 3 = rw (length-written offered ws) (omega (arith, few)) in
-        rw (one, length-written offered ws, all, le-leb (length offered / 3) 16 small, present (length offered / 3) (written offered ws) room, stored-written offered ws few (c .1), e)
+        let all′ : length (written offered ws) ≤ 48 = rw (length-written offered ws) (omega (arith, all)) in
+        rw (one, length-written offered ws, all, take-all 48 (written offered ws) all′, stored-written offered ws few (c .1), e)
 
     -- A lone record in order, offered what passes the checks, is in order afterwards too.
     pub stays-in-order : loneInOrder (lone .symbol) (loneWordsAfter s ws authority offered) ≡ true
@@ -92,3 +92,21 @@ module _ (s : Symbol) (ws : List ℕ) (id : ℕ) (authority : Bool) (place : ℕ
         rw pass
         (by-lines s ws id authority place offered (λ t u a. loneInOrder t u ≡ true) o o
         (in-order-typed (s .id) (s .authority) (s .place)) (in-order-typed id authority place) o)
+
+-- An answer that tells of no change: a refusal, or value 0. Of such an update the symbol is what it was.
+abbrev pub quiet : Answer → Bool
+quiet a = not (eqb (a .refusal) 0) || eqb (a .value) 0
+
+silent : (a : Answer) → T (quiet a) → a .refusal ≡ 0 → a .value ≡ 0
+silent a q e = by-value (eqb (a .value) 0) refl (rw e at q)
+  where
+    by-value : (t : Bool) → eqb (a .value) 0 ≡ t → T t → a .value ≡ 0
+    by-value true f g = eqb-true (a .value) 0 f
+    by-value false f g = absurd g
+
+pub still : (s : Symbol) (ws : List ℕ) (id : ℕ) (authority : Bool) (place : ℕ) (offered : List ℕ) (r : Updated) →
+    r ≡ loneUpdated s ws id authority place offered → T (quiet (r .answer)) → s ≡ r .symbol
+still s ws id authority place offered r e q =
+    let same = ap (λ (u : Updated). u .answer) e in
+    sym (lone-unchanged s ws id authority place offered (silent (loneUpdated s ws id authority place offered .answer) (subst (λ (a : Answer). T (quiet a)) same q)) .0)
+    ∙ sym (ap (λ (u : Updated). u .symbol) e)

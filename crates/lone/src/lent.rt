@@ -3,6 +3,7 @@ use answers::checked;
 use answers::refused;
 use checks::is_type;
 use columns::Symbol;
+use columns::stored_words;
 use refusals::check_type;
 use updates::Updated;
 use updates::update;
@@ -17,17 +18,13 @@ fn in_order(s: Symbol, words: &[u64]) -> bool
         return false;
     }
     let state = s.state;
-    let n = s.layers;
     if state == 2 {
         return true;
     }
     if state != 1 {
         return false;
     }
-    if n > 16 {
-        return false;
-    }
-    is_type(&words[..n as usize * 3])
+    is_type(stored_words(words, s.layers))
 }
 
 // Updates a record that stands alone, with its 48 words.
@@ -57,7 +54,7 @@ pub fn update_lone(
     update(s, words, id, authority, place, offered)
 }
 
-// The same, of a symbol that is lent.
+// The same, of a symbol that is lent. Where nothing changes nothing is stored.
 pub fn do_update_symbol(
     symbol: &mut Symbol,
     words: &mut [u64],
@@ -72,6 +69,10 @@ pub fn do_update_symbol(
 {
     let s = *symbol;
     let u = update_lone(s, words, id, authority, place, offered);
+    let a = u.answer;
+    if (a.refusal != 0) | (a.value == 0) {
+        return a;
+    }
     *symbol = u.symbol;
-    u.answer
+    a
 }

@@ -3,25 +3,27 @@
 use mathlib.Core.Path.{_≡_, refl, sym, ap, subst, _∙_}
 use mathlib.Core.Bool.{Bool, true, false, cond, not, false≢true}
 use mathlib.Core.List.{List}
-use Prim.Native.Nat.{ℕ, _+_, _-_, _*_, _/_, _≤_, _<_}
-use native.Mathlib.Omega.{arith}
+use Prim.Native.Nat.{ℕ, _≤_, _<_}
 use lib.Dec.{eqb, leb}
-use lib.ListN.{length, take, drop, getD}
-use borrow.Author.Tests.{lt-leb, le-leb, leb-false, lt-ltb, le-ltb, eq-eqb, ne-eqb, not-true, not-false}
+use lib.ListN.{length, take, getD}
+use borrow.Author.Tests.{lt-leb, le-leb, leb-false, eq-eqb, ne-eqb, not-true, not-false}
 use Rattle.columns.specs.declared.symbol.Symbol.{Symbol}
 use Rattle.columns.specs.Rows.{vacant, readFrom, rowUnder}
+use Rattle.columns.specs.Stored.{slotWords, storedWords}
 use Rattle.searches.specs.Search.{slotFor, slotIn}
 use Rattle.orders.specs.Order.{inOrder}
 use Rattle.columns.proofs.Reading.{length-read, row-found}
 use Rattle.searches.proofs.Searching.{slot-has}
 use Rattle.orders.proofs.Ordered.{ordered, few-rows, slot-there}
 use Rattle.answers.specs.declared.flat.Answer.{Answer}
-use Rattle.lookups.specs.Gets.{markFor, got, told, foundAfter, storedType, typeIn, typeOf}
-use Rattle.lookups.specs.declared.get.Got.{Got}
-use Rattle.lookups.specs.declared.get.Got.the-variants as got′
+use Rattle.lookups.specs.Gets.{markFor, got, told, foundAfter, typeIn, typeOf, ofGot}
+use Rattle.lookups.specs.Got as got′
+use Rattle.lookups.specs.Got.{Got}
+use Rattle.lookups.specs.declared.get.Got as coded
+use Rattle.lookups.specs.declared.get.Got.the-variants as code
 
 module _ (ws w : List ℕ) (n id : ℕ) (authority o : Bool) (e : o ≡ inOrder (readFrom ws 0 n) w) where
-  pub get-refused : not o ≡ true → got′.Refused 12 0 ≡ got id authority (readFrom ws 0 n) w
+  pub get-refused : not o ≡ true → got′.refused 12 0 ≡ got id authority (readFrom ws 0 n) w
   unfolding got
   get-refused f = rw (← e, not-true o f)
 
@@ -29,7 +31,7 @@ module _ (ws w : List ℕ) (n id : ℕ) (authority o : Bool) (e : o ≡ inOrder 
     is : k ≡ slotFor id (readFrom ws 0 n)
     is = slot-there ws w n (sym e ∙ not-false o f) id k q
 
-    pub get-absent : n ≤ k → got′.Absent ≡ got id authority (readFrom ws 0 n) w
+    pub get-absent : n ≤ k → got′.absent ≡ got id authority (readFrom ws 0 n) w
     unfolding got
     get-absent h = rw (← e, not-false o f, ← is, length-read ws 0 n, le-leb n k h)
 
@@ -39,21 +41,21 @@ module _ (ws w : List ℕ) (n id : ℕ) (authority o : Bool) (e : o ≡ inOrder 
           let below : slotFor id (readFrom ws 0 n) < length (readFrom ws 0 n) = rw (← is, length-read ws 0 n) h in
           row-found ws n id k s (few-rows ws w n (sym e ∙ not-false o f)) h (ap (λ (j : ℕ). getD (readFrom ws 0 n) j vacant .id) is ∙ slot-has id (readFrom ws 0 n) below) r
 
-      pub get-typed : s .state ≡ 1 → got′.Typed k ≡ got id authority (readFrom ws 0 n) w
+      pub get-typed : s .state ≡ 1 → got′.typed k ≡ got id authority (readFrom ws 0 n) w
       unfolding got
       get-typed t = rw (← e, not-false o f, ← is, length-read ws 0 n, lt-leb n k h, ← there, eq-eqb (s .state) 1 t)
 
-      pub get-poisoned : (m : ℕ) → (s .state ≡ 1 → ⊥) → m ≡ markFor authority (s .mark) → got′.Poisoned m ≡ got id authority (readFrom ws 0 n) w
+      pub get-poisoned : (m : ℕ) → (s .state ≡ 1 → ⊥) → m ≡ markFor authority (s .mark) → got′.poisoned m ≡ got id authority (readFrom ws 0 n) w
       unfolding got
       get-poisoned m t g =
           rw (← e, not-false o f, ← is, length-read ws 0 n, lt-leb n k h, ← there, ne-eqb (s .state) 1 t, g)
 
 -- how it is told
-module _ (g k : Got) (e : g ≡ k) where
-  pub told-by : (a : Answer) → a ≡ told k → a ≡ told g
+module _ (g k : coded.Got) (e : g ≡ k) where
+  pub told-by : (a : Answer) → a ≡ told (ofGot k) → a ≡ told (ofGot g)
   told-by a q = rw e q
 
-  pub found-by : (before after : ℕ) → after ≡ foundAfter k before → after ≡ foundAfter g before
+  pub found-by : (before after : ℕ) → after ≡ foundAfter (ofGot k) before → after ≡ foundAfter (ofGot g) before
   found-by before after q = rw e q
 
 -- the same, of what was looked up
@@ -64,44 +66,27 @@ module _ (g k : Got) (e : g ≡ k) where
   pub found-of : (before after : ℕ) → after ≡ foundAfter g before → after ≡ foundAfter k before
   found-of before after q = q ∙ ap (λ (x : Got). foundAfter x before) e
 
--- the words of a slot
-module _ (store : List ℕ) (k n : ℕ) where
-  pub many-layers : 16 < n → take 0 store ≡ storedType store k n
-  unfolding storedType
-  many-layers h = rw (lt-ltb 16 n h)
-
-  module _ (h : n ≤ 16) where
-    pub no-slot : length store / 48 ≤ k → take 0 store ≡ storedType store k n
-    unfolding storedType
-    no-slot i = rw (le-ltb 16 n h, le-leb (length store / 48) k i)
-
-    pub in-slot : k < length store / 48 → take (k * 48 + n * 3 - k * 48) (drop (k * 48) store) ≡ storedType store k n
-    unfolding storedType
-    in-slot i =
-        let e : k * 48 + n * 3 - k * 48 ≡ n * 3 = omega arith in
-        rw (e, le-ltb 16 n h, lt-leb (length store / 48) k i)
-
 -- the type's words
 abbrev isTyped : Got → Bool
-isTyped got′.Absent = false
-isTyped (got′.Typed k) = true
-isTyped (got′.Poisoned m) = false
-isTyped (got′.Refused n p) = false
+isTyped got′.absent = false
+isTyped (got′.typed k) = true
+isTyped (got′.poisoned m) = false
+isTyped (got′.refused n p) = false
 
 abbrev slotIn-got : Got → ℕ
-slotIn-got got′.Absent = 0
-slotIn-got (got′.Typed k) = k
-slotIn-got (got′.Poisoned m) = 0
-slotIn-got (got′.Refused n p) = 0
+slotIn-got got′.absent = 0
+slotIn-got (got′.typed k) = k
+slotIn-got (got′.poisoned m) = 0
+slotIn-got (got′.refused n p) = 0
 
-typed-parts : (o t u : Bool) (i m k : ℕ) → cond o (cond t got′.Absent (cond u (got′.Typed i) (got′.Poisoned m))) (got′.Refused 12 0) ≡ got′.Typed k →
+typed-parts : (o t u : Bool) (i m k : ℕ) → cond o (cond t got′.absent (cond u (got′.typed i) (got′.poisoned m))) (got′.refused 12 0) ≡ got′.typed k →
     (o ≡ true) × (t ≡ false) × (k ≡ i)
 typed-parts false t u i m k e = absurd (false≢true (ap isTyped e))
 typed-parts true true u i m k e = absurd (false≢true (ap isTyped e))
 typed-parts true false true i m k e = (refl, refl, sym (ap slotIn-got e))
 typed-parts true false false i m k e = absurd (false≢true (ap isTyped e))
 
-pub typed-is : (id : ℕ) (asking : Bool) (table : List Symbol) (store : List ℕ) (k : ℕ) → got id asking table store ≡ got′.Typed k →
+pub typed-is : (id : ℕ) (asking : Bool) (table : List Symbol) (store : List ℕ) (k : ℕ) → got id asking table store ≡ got′.typed k →
     (inOrder table store ≡ true) × (k < length table) × (k ≡ slotFor id table)
 unfolding got
 typed-is id asking table store k e =
@@ -109,28 +94,28 @@ typed-is id asking table store k e =
     let f = typed-parts (inOrder table store) (leb (length table) (slotFor id table)) (eqb (s .state) 1) (slotFor id table) (markFor asking (s .mark)) k e in
     (f .0, subst (λ (j : ℕ). j < length table) (sym (f .2)) (leb-false (length table) (slotFor id table) (f .1)), f .2)
 
-module _ (flat : List ℕ) (n id : ℕ) (store : List ℕ) (g : Got) (e : g ≡ got id true (readFrom flat 0 n) store) where
-  type-by : (h : Got) → g ≡ h → typeIn h (readFrom flat 0 n) store ≡ typeOf id (readFrom flat 0 n) store
+module _ (flat : List ℕ) (n id : ℕ) (store : List ℕ) (g : coded.Got) (e : ofGot g ≡ got id true (readFrom flat 0 n) store) where
+  type-by : (h : coded.Got) → g ≡ h → typeIn (ofGot h) (readFrom flat 0 n) store ≡ typeOf id (readFrom flat 0 n) store
   unfolding typeOf
-  type-by h q = ap (λ (x : Got). typeIn x (readFrom flat 0 n) store) (sym q ∙ e)
+  type-by h q = ap (λ (x : Got). typeIn x (readFrom flat 0 n) store) (ap ofGot (sym q) ∙ e)
 
-  pub type-absent : g ≡ got′.Absent → take 0 store ≡ typeOf id (readFrom flat 0 n) store
-  type-absent q = type-by got′.Absent q
+  pub type-absent : g ≡ code.Absent → take 0 store ≡ typeOf id (readFrom flat 0 n) store
+  type-absent q = type-by code.Absent q
 
-  pub type-poisoned : (m : ℕ) → g ≡ got′.Poisoned m → take 0 store ≡ typeOf id (readFrom flat 0 n) store
-  type-poisoned m q = type-by (got′.Poisoned m) q
+  pub type-poisoned : (m : ℕ) → g ≡ code.Poisoned m → take 0 store ≡ typeOf id (readFrom flat 0 n) store
+  type-poisoned m q = type-by (code.Poisoned m) q
 
-  pub type-refused : (k p : ℕ) → g ≡ got′.Refused k p → take 0 store ≡ typeOf id (readFrom flat 0 n) store
-  type-refused k p q = type-by (got′.Refused k p) q
+  pub type-refused : (k p : ℕ) → g ≡ code.Refused k p → take 0 store ≡ typeOf id (readFrom flat 0 n) store
+  type-refused k p q = type-by (code.Refused k p) q
 
-  pub type-there : (k : ℕ) (s : Symbol) (r : List ℕ) → g ≡ got′.Typed k → s ≡ rowUnder flat k id → r ≡ storedType store k (s .layers) →
-      r ≡ typeOf id (readFrom flat 0 n) store
-  type-there k s r q row words =
+  pub type-there : (k : ℕ) (s : Symbol) (slot r : List ℕ) → g ≡ code.Typed k → s ≡ rowUnder flat k id → slot ≡ slotWords store k →
+      r ≡ storedWords (s .layers) slot → r ≡ typeOf id (readFrom flat 0 n) store
+  type-there k s slot r q row part words =
       let table = readFrom flat 0 n in
-      let f = typed-is id true table store k (sym e ∙ q) in
+      let f = typed-is id true table store k (sym e ∙ ap ofGot q) in
       let m = length-read flat 0 n in
       let few = subst (λ (j : ℕ). j ≤ 128) m (ordered table store (f .0) .few) in
       let below = subst (λ (j : ℕ). k < j) m (f .1) in
       let has = ap (λ (j : ℕ). getD table j vacant .id) (f .2) ∙ slot-has id table (subst (λ (j : ℕ). j < length table) (f .2) (f .1)) in
       let is = row-found flat n id k s few below has row in
-      words ∙ ap (λ (x : Symbol). storedType store k (x .layers)) is ∙ type-by (got′.Typed k) q
+      words ∙ (λ t. storedWords (is t .layers) (part t)) ∙ type-by (code.Typed k) q

@@ -10,8 +10,6 @@ use Rattle.lookups.proofs.get.get_among.Kinds as get-among-kinds
 use Rattle.lookups.proofs.get.get_among.Reads as get-among
 use Rattle.lookups.proofs.get.type_among.Kinds as type-among-kinds
 use Rattle.lookups.proofs.get.type_among.Reads as type-among
-use Rattle.lookups.proofs.get.stored_type.Kinds as stored-type-kinds
-use Rattle.lookups.proofs.get.stored_type.Reads as stored-type
 
 pub get-among-single : (κs : Lfts 3) (a : Dens κs get-among-kinds.ps) (x y : resT get-among-kinds.r κs .Denot) (s t : AtExit (endedOf 3 get-among-kinds.ps get-among-kinds.r) κs) →
     get-among.Post κs a x s → get-among.Post κs a y t → (x ≡ y) × (now (s .1 .1 .1 .1 .1 .0) ≡ now (t .1 .1 .1 .1 .1 .0))
@@ -20,7 +18,3 @@ get-among-single κs a x y s t p q = (p .0 ∙ sym (q .0), p .1 ∙ sym (q .1))
 pub type-among-single : (κs : Lfts 2) (a : Dens κs type-among-kinds.ps) (x y : resT type-among-kinds.r κs .Denot) (s t : AtExit (endedOf 2 type-among-kinds.ps type-among-kinds.r) κs) →
     type-among.Post κs a x s → type-among.Post κs a y t → now x ≡ now y
 type-among-single κs a x y s t p q = p ∙ sym q
-
-pub stored-type-single : (κs : Lfts 1) (a : Dens κs stored-type-kinds.ps) (x y : resT stored-type-kinds.r κs .Denot) (s t : AtExit (endedOf 1 stored-type-kinds.ps stored-type-kinds.r) κs) →
-    stored-type.Post κs a x s → stored-type.Post κs a y t → now x ≡ now y
-stored-type-single κs a x y s t p q = p ∙ sym q

@@ -1,1 +1,2 @@
+pub mod Got
 pub mod Gets

@@ -2,6 +2,8 @@ use answers::Answer;
 use answers::accepted;
 use answers::refused;
 use columns::row;
+use columns::slot_words;
+use columns::stored_words;
 use orders::in_order;
 use searches::slot_of;
 ghost use mathlib.Core.Path.{_≡_};
@@ -23,7 +25,7 @@ fn mark_for(authority: bool, mark: u64) -> u64
 }
 
 fn look(flat: &[u64; 768], n: usize, store: &[u64], id: u32, authority: bool) -> Got
-    ensures { λ r. ⌜ r ≡ rules.got id authority (readFrom (now (flat .entry)) 0 n) (now (store .entry)) ⌝ }
+    ensures { λ r. ⌜ rules.ofGot r ≡ rules.got id authority (readFrom (now (flat .entry)) 0 n) (now (store .entry)) ⌝ }
 {
     if !in_order(flat, n, store) {
         return Got::Refused {
@@ -45,8 +47,8 @@ fn look(flat: &[u64; 768], n: usize, store: &[u64], id: u32, authority: bool) ->
 
 // The slot or the mark goes where it was lent; without one, what stood there stays.
 fn tell(got: Got, found: &mut u64) -> Answer
-    ensures answer { λ r. ⌜ r ≡ rules.told got ⌝ }
-    ensures written { λ _. ⌜ now (found .exit) ≡ rules.foundAfter got (now (found .entry)) ⌝ }
+    ensures answer { λ r. ⌜ r ≡ rules.told (rules.ofGot got) ⌝ }
+    ensures written { λ _. ⌜ now (found .exit) ≡ rules.foundAfter (rules.ofGot got) (now (found .entry)) ⌝ }
 {
     match got {
         Got::Absent => accepted(0),
@@ -78,21 +80,6 @@ pub fn get_among(
     tell(got, found)
 }
 
-// The words of the type of a slot, in the store itself; no words where they are not there.
-pub fn stored_type(store: &[u64], slot: usize, layers: u64) -> &[u64]
-    ensures { λ r. ⌜ now r ≡ rules.storedType (now (store .entry)) slot layers ⌝ }
-{
-    if layers > 16 {
-        return &store[..0];
-    }
-    if slot >= store.len() / 48 {
-        return &store[..0];
-    }
-    let from = slot * 48;
-    let end = from + (layers as usize) * 3;
-    &store[from..end]
-}
-
 // The type that it has under a name, as the part of the store that holds it.
 pub fn type_among<'a>(flat: &[u64; 768], n: usize, store: &'a [u64], id: u32) -> &'a [u64]
     ensures { λ r. ⌜ now r ≡ rules.typeOf id (readFrom (now (flat .entry)) 0 n) (now (store .entry)) ⌝ }
@@ -101,7 +88,7 @@ pub fn type_among<'a>(flat: &[u64; 768], n: usize, store: &'a [u64], id: u32) ->
         Got::Absent => &store[..0],
         Got::Typed(at) => {
             let s = row(flat, at, id);
-            stored_type(store, at, s.layers)
+            stored_words(slot_words(store, at), s.layers)
         }
         Got::Poisoned(_) => &store[..0],
         Got::Refused {

@@ -3,5 +3,4 @@ mod get;
 
 pub use get::Got;
 pub use get::get_among;
-pub use get::stored_type;
 pub use get::type_among;

@@ -1,1 +1,3 @@
+-- What the proofs of several functions use.
+pub mod Coded
 pub mod Single

@@ -1,1 +1,3 @@
+pub mod Act
+pub mod Operation
 pub mod Operations

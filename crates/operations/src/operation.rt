@@ -10,6 +10,20 @@ pub enum Operation {
     ForwardType,
 }
 
+// An operation that makes or changes a record.
+pub enum Act {
+    PutPoison,
+    PutType,
+    ForwardPoison,
+    ForwardType,
+}
+
+// What an operation asks for: nothing, or an act.
+pub enum Asked {
+    Nothing,
+    Acts(Act),
+}
+
 // What is put.
 pub enum Offer {
     Nothing,
@@ -24,7 +38,7 @@ pub enum Declared {
 }
 
 pub fn put(offer: Offer) -> Operation
-    ensures { λ r. ⌜ r ≡ rules.put offer ⌝ }
+    ensures { λ r. ⌜ rules.ofOperation r ≡ rules.put offer ⌝ }
 {
     match offer {
         Offer::Nothing => Operation::PutNothing,
@@ -34,7 +48,7 @@ pub fn put(offer: Offer) -> Operation
 }
 
 pub fn forward(declared: Declared) -> Operation
-    ensures { λ r. ⌜ r ≡ rules.forward declared ⌝ }
+    ensures { λ r. ⌜ rules.ofOperation r ≡ rules.forward declared ⌝ }
 {
     match declared {
         Declared::Poison => Operation::ForwardPoison,
@@ -42,26 +56,25 @@ pub fn forward(declared: Declared) -> Operation
     }
 }
 
-pub fn offers_type(operation: Operation) -> bool
-    ensures { λ r. ⌜ r ≡ rules.offersType operation ⌝ }
+pub fn act_of(operation: Operation) -> Asked
+    ensures { λ r. ⌜ rules.ofAsked r ≡ rules.ofOperation operation ⌝ }
 {
     match operation {
-        Operation::PutNothing => false,
-        Operation::PutPoison => false,
-        Operation::PutType => true,
-        Operation::ForwardPoison => false,
-        Operation::ForwardType => true,
+        Operation::PutNothing => Asked::Nothing,
+        Operation::PutPoison => Asked::Acts(Act::PutPoison),
+        Operation::PutType => Asked::Acts(Act::PutType),
+        Operation::ForwardPoison => Asked::Acts(Act::ForwardPoison),
+        Operation::ForwardType => Asked::Acts(Act::ForwardType),
     }
 }
 
-pub fn puts_nothing(operation: Operation) -> bool
-    ensures { λ r. ⌜ r ≡ rules.putsNothing operation ⌝ }
+pub fn offers_type(act: Act) -> bool
+    ensures { λ r. ⌜ r ≡ rules.offersType (rules.ofAct act) ⌝ }
 {
-    match operation {
-        Operation::PutNothing => true,
-        Operation::PutPoison => false,
-        Operation::PutType => false,
-        Operation::ForwardPoison => false,
-        Operation::ForwardType => false,
+    match act {
+        Act::PutPoison => false,
+        Act::PutType => true,
+        Act::ForwardPoison => false,
+        Act::ForwardType => true,
     }
 }

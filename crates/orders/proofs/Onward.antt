@@ -8,13 +8,14 @@ use Prim.Native.Nat.{ℕ, zero, suc, _+_, _-_, _*_, _%_, _≤_, _<_}
 use native.Mathlib.Nat.{zero-add, not-suc-le-zero}
 use native.Mathlib.Omega.{arith}
 use lib.Dec.{eqb, leb}
-use lib.ListN.{length, take, drop, getD, set, length-take, length-drop, length-set}
+use lib.ListN.{length, take, drop, getD, set, length-set}
 use lib.Seq.{drop-drop, getD-set-same, getD-set-other}
-use borrow.Author.Tests.{lt-leb, ne-eqb, eqb-true, eqb-false}
+use borrow.Author.Tests.{lt-leb, eq-eqb, ne-eqb, eqb-true, eqb-false}
 use Rattle.layers.proofs.Decide.{both, neither, eqb-sym}
-use Rattle.layers.proofs.Words.{part, part-is}
 use Rattle.columns.specs.declared.symbol.Symbol.{Symbol}
 use Rattle.columns.specs.Rows.{free, rowAt, readFrom}
+use Rattle.columns.specs.Stored.{storedWords}
+use Rattle.checks.specs.Check.{checkOf, isGood}
 use Rattle.columns.proofs.Reading.{from, read-more, read-end, read-all, read-last, length-read}
 use Rattle.orders.specs.Order.{knownStates, allFree, takenFirst, taken, hasId, repeats, passes, allPass, inOrder}
 use Rattle.orders.specs.Standing.{stands, Noted}
@@ -23,7 +24,7 @@ use Rattle.orders.proofs.Ordered.{ordered, in-order, none-taken}
 -- the pass from a record on
 unfoldable pub onward : Bool → List Symbol → List Symbol → List ℕ → Bool
 onward after before [] w = true
-onward after before (s ∷ t) w = stands after before s w && onward (free s) (before ++ (s ∷ [])) t (drop 48 w)
+onward after before (s ∷ t) w = stands after before s (take 48 w) && onward (free s) (before ++ (s ∷ [])) t (drop 48 w)
 
 -- one of the later ids among the earlier
 unfoldable crosses : List Symbol → List Symbol → Bool
@@ -84,7 +85,7 @@ unfolding allFree allPass
 free-pass [] w e = refl
 free-pass (s ∷ t) w e =
     let p = both (free s) (allFree t) e in
-    rw (free-passes s w (p .0)) (free-pass t (drop 48 w) (p .1))
+    rw (free-passes s (take 48 w) (p .0)) (free-pass t (drop 48 w) (p .1))
 
 -- what the pass asks of the records that are left, sentence by sentence
 record Left (before t : List Symbol) (w : List ℕ) : Type 0 where
@@ -103,21 +104,21 @@ module _ (before : List Symbol) (s : Symbol) (t : List Symbol) (w : List ℕ) wh
         first = rw q e;
         apart = rw (q, none-taken t e);
         ids = rw (q, none-taken t e);
-        pass = rw (free-passes s w q) (free-pass t (drop 48 w) e);
+        pass = rw (free-passes s (take 48 w) q) (free-pass t (drop 48 w) e);
       }
 
   module _ (q : free s ≡ false) where
-    stands-by : stands false before s w ≡ true → (leb (s .state) 2 ≡ true) × (hasId (s .id) before ≡ false) × (passes (s .state) (s .layers) w ≡ true)
+    stands-by : stands false before s (take 48 w) ≡ true → (leb (s .state) 2 ≡ true) × (hasId (s .id) before ≡ false) × (passes (s .state) (s .layers) (take 48 w) ≡ true)
     unfolding stands
     stands-by e = by-tests (leb (s .state) 2) (hasId (s .id) before) (rw q at e)
       where
-        by-tests : (k h : Bool) → cond k (cond h false (passes (s .state) (s .layers) w)) false ≡ true →
-            (k ≡ true) × (h ≡ false) × (passes (s .state) (s .layers) w ≡ true)
+        by-tests : (k h : Bool) → cond k (cond h false (passes (s .state) (s .layers) (take 48 w))) false ≡ true →
+            (k ≡ true) × (h ≡ false) × (passes (s .state) (s .layers) (take 48 w) ≡ true)
         by-tests false h e = absurd (false≢true e)
         by-tests true true e = absurd (false≢true e)
         by-tests true false e = (refl, refl, e)
 
-    left-taken : stands false before s w ≡ true → Left (before ++ (s ∷ [])) t (drop 48 w) → Left before (s ∷ t) w
+    left-taken : stands false before s (take 48 w) ≡ true → Left (before ++ (s ∷ [])) t (drop 48 w) → Left before (s ∷ t) w
     unfolding knownStates takenFirst taken crosses repeats allPass
     left-taken e r =
         let p = stands-by e in
@@ -130,13 +131,13 @@ module _ (before : List Symbol) (s : Symbol) (t : List Symbol) (w : List ℕ) wh
           pass = rw (p .2) (r .pass);
         }
 
-    taken-left : Left before (s ∷ t) w → (stands false before s w ≡ true) × Left (before ++ (s ∷ [])) t (drop 48 w)
+    taken-left : Left before (s ∷ t) w → (stands false before s (take 48 w) ≡ true) × Left (before ++ (s ∷ [])) t (drop 48 w)
     unfolding stands knownStates takenFirst taken crosses repeats allPass
     taken-left r =
         let k = both (leb (s .state) 2) (knownStates t) (r .states) in
         let a = neither (hasId (s .id) before) (crosses before (taken t)) (rw q at (r .apart)) in
         let i = neither (hasId (s .id) (taken t)) (repeats (taken t)) (rw q at (r .ids)) in
-        let p = both (passes (s .state) (s .layers) w) (allPass t (drop 48 w)) (r .pass) in (
+        let p = both (passes (s .state) (s .layers) (take 48 w)) (allPass t (drop 48 w)) (r .pass) in (
           rw (q, k .0, a .0) (p .0),
           record {
             states = k .1;
@@ -151,10 +152,10 @@ to-left : (before t : List Symbol) (w : List ℕ) → onward false before t w �
 unfolding onward knownStates takenFirst taken crosses repeats allPass
 to-left before [] w e = record { states = refl; first = refl; apart = refl; ids = refl; pass = refl }
 to-left before (s ∷ t) w e =
-    let p = both (stands false before s w) (onward (free s) (before ++ (s ∷ [])) t (drop 48 w)) e in
+    let p = both (stands false before s (take 48 w)) (onward (free s) (before ++ (s ∷ [])) t (drop 48 w)) e in
     by-first (free s) refl (p .0) (p .1) (to-left (before ++ (s ∷ [])) t (drop 48 w))
   where
-    by-first : (f : Bool) → free s ≡ f → stands false before s w ≡ true → onward f (before ++ (s ∷ [])) t (drop 48 w) ≡ true →
+    by-first : (f : Bool) → free s ≡ f → stands false before s (take 48 w) ≡ true → onward f (before ++ (s ∷ [])) t (drop 48 w) ≡ true →
         (onward false (before ++ (s ∷ [])) t (drop 48 w) ≡ true → Left (before ++ (s ∷ [])) t (drop 48 w)) → Left before (s ∷ t) w
     by-first true q a b ih = left-free before s t w q (sym (after-free (before ++ (s ∷ [])) t (drop 48 w)) ∙ b)
     by-first false q a b ih = left-taken before s t w q a (ih b)
@@ -165,7 +166,7 @@ of-left before [] w r = refl
 of-left before (s ∷ t) w r = by-first (free s) refl (of-left (before ++ (s ∷ [])) t (drop 48 w))
   where
     by-first : (f : Bool) → free s ≡ f → (Left (before ++ (s ∷ [])) t (drop 48 w) → onward false (before ++ (s ∷ [])) t (drop 48 w) ≡ true) →
-        (stands false before s w && onward f (before ++ (s ∷ [])) t (drop 48 w)) ≡ true
+        (stands false before s (take 48 w) && onward f (before ++ (s ∷ [])) t (drop 48 w)) ≡ true
     by-first true q ih = rw q (after-free (before ++ (s ∷ [])) t (drop 48 w) ∙ (rw q at (r .first)))
     by-first false q ih =
         let p = taken-left before s t w q r in
@@ -216,12 +217,13 @@ module _ (ws w : List ℕ) (n : ℕ) where
     unfolding onward
     ends h = rw (read-end ws n k h) at e
 
-    module _ (r : Bool) (h : k < n) (q : r ≡ stands after (readFrom ws 0 k) (rowAt ws k) (part w (k * 48))) where
+    module _ (r : Bool) (h : k < n) (q : r ≡ stands after (readFrom ws 0 k) (rowAt ws k) (take (k * 48 + 48 - k * 48) (drop (k * 48) w))) where
       turns : (r && onward (free (rowAt ws k)) (readFrom ws 0 (k + 1)) (from ws n (k + 1)) (drop ((k + 1) * 48) w)) ≡ v
       unfolding onward
       turns =
           let m : (k + 1) * 48 ≡ k * 48 + 48 = omega arith in
-          rw (q, part-is w (k * 48), read-last ws 0 k, zero-add k, m, ← drop-drop 48 (k * 48) w) (rw (read-more ws n k h) at e)
+          let one : k * 48 + 48 - k * 48 ≡ 48 = omega arith in
+          rw (q, one, read-last ws 0 k, zero-add k, m, ← drop-drop 48 (k * 48) w) (rw (read-more ws n k h) at e)
 
       pub breaks : r ≡ false → false ≡ v
       breaks t = rw t at turns
@@ -303,9 +305,12 @@ module _ (ws : List ℕ) (n i id : ℕ) (hit v : Bool) (e : (hit || hasId id (fr
 pub id-start : (ws : List ℕ) (n id : ℕ) → (false || hasId id (from ws n 0)) ≡ hasId id (readFrom ws 0 n)
 id-start ws n id = ap (hasId id) (read-all ws n)
 
--- a record's words
-pub words : (w : List ℕ) (n : ℕ) → 48 ≤ length w → n ≤ 16 → length (take (n * 3) w) ≡ n * 3
-words w n h l = simp length-take (omega arith)
+-- a typed record's words
+pub words-pass : (state layers : ℕ) (ws stored : List ℕ) (r : Bool) → state ≡ 1 → stored ≡ storedWords layers ws → r ≡ isGood (checkOf stored) →
+    r ≡ passes state layers ws
+unfolding passes
+words-pass state layers ws stored r e p q = rw (eq-eqb state 1 e, ← p) q
 
-pub slot : (w : List ℕ) (k n : ℕ) → length w ≡ n * 48 → k < n → 48 ≤ length (part w (k * 48))
-slot w k n l h = simp (length-take, length-drop) (omega arith)
+-- a slot's words
+pub slot : (w : List ℕ) (k n : ℕ) → length w ≡ n * 48 → k < n → k * 48 + 48 ≤ length w
+slot w k n l h = omega arith

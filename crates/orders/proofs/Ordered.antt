@@ -1,17 +1,17 @@
 -- What is known of a table that is in order, sentence by sentence; and that these sentences make it so.
 -- Assumes nothing.
-use mathlib.Core.Path.{_≡_, refl, ap, subst, _∙_}
+use mathlib.Core.Path.{_≡_, refl, subst}
 use mathlib.Core.Bool.{true, false, not, _&&_}
 use mathlib.Core.List.{List, [], _∷_}
 use Prim.Native.Nat.{ℕ, zero, suc, _+_, _*_, _≤_, _<_}
-use native.Mathlib.Nat.{not-suc-le-zero}
 use native.Mathlib.Omega.{arith}
 use lib.Dec.{leb, eqb}
-use lib.ListN.{length, drop, getD}
+use lib.ListN.{length, take, drop, getD}
 use lib.Seq.{drop-drop}
 use borrow.Author.Tests.{lt-leb, leb-true, eqb-true, le-leb, eq-eqb, not-true}
 use Rattle.layers.proofs.Decide.{both}
 use Rattle.columns.specs.Rows.{vacant, free, readFrom}
+use Rattle.columns.specs.Stored.{slotWords}
 use Rattle.searches.specs.Search.{slotFor, firstFree, slotIn, freeIn}
 use Rattle.columns.proofs.Reading.{length-read}
 use Rattle.searches.proofs.Searching.{slot-is, free-is}
@@ -64,16 +64,15 @@ none-taken (s ∷ table) e =
     rw (p .0) (none-taken table (p .1))
 
 -- a record's own words pass
-pub pass-at : (table : List Symbol) (store : List ℕ) (k : ℕ) → allPass table store ≡ true → k < length table →
-    passes (getD table k vacant .state) (getD table k vacant .layers) (drop (k * 48) store) ≡ true
-unfolding allPass
-pass-at [] store k e h = absurd (not-suc-le-zero h)
-pass-at (x ∷ table) store zero e h = both (passes (x .state) (x .layers) store) (allPass table (drop 48 store)) e .0
-pass-at (x ∷ table) store (suc k) e h =
-    let n : 48 + k * 48 ≡ suc k * 48 = omega arith in
-    subst (λ (ws : List ℕ). passes (getD table k vacant .state) (getD table k vacant .layers) ws ≡ true)
-    (drop-drop (k * 48) 48 store ∙ ap (λ (m : ℕ). drop m store) n)
-    (pass-at table (drop 48 store) k (both (passes (x .state) (x .layers) store) (allPass table (drop 48 store)) e .1) (omega arith))
+pub pass-at : (table : List Symbol) (store : List ℕ) (k : ℕ) → allPass table store ≡ true →
+    passes (getD table k vacant .state) (getD table k vacant .layers) (slotWords store k) ≡ true
+unfolding allPass passes
+pass-at [] store k e = refl
+pass-at (x ∷ table) store zero e = both (passes (x .state) (x .layers) (take 48 store)) (allPass table (drop 48 store)) e .0
+pass-at (x ∷ table) store (suc k) e =
+    let m : suc k * 48 ≡ 48 + k * 48 = omega arith in
+    rw (m, ← drop-drop (k * 48) 48 store)
+    (pass-at table (drop 48 store) k (both (passes (x .state) (x .layers) (take 48 store)) (allPass table (drop 48 store)) e .1))
 
 -- a table of more than 128 records is not in order
 pub too-long : (table : List Symbol) (store : List ℕ) → 128 < length table → inOrder table store ≡ false

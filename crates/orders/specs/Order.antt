@@ -7,6 +7,7 @@ use lib.ListN.{length, take, drop}
 use Rattle.checks.specs.Check.{checkOf, isGood}
 use Rattle.columns.specs.declared.symbol.Symbol.{Symbol}
 use Rattle.columns.specs.Rows.{free}
+use Rattle.columns.specs.Stored.{storedWords}
 
 -- "states are 0 to 2"
 unfoldable pub knownStates : List Symbol → Bool
@@ -35,14 +36,14 @@ unfoldable pub repeats : List Symbol → Bool
 repeats [] = false
 repeats (s ∷ table) = hasId (s .id) table || repeats table
 
--- "each typed record's words pass checks 1-3": a type of more than 16 layers has no room in 48 words.
+-- "each typed record's words pass checks 1-3"
 unfoldable pub passes : ℕ → ℕ → List ℕ → Bool
-passes state layers words = cond (eqb state 1) (cond (leb layers 16) (isGood (checkOf (take (layers * 3) words))) false) true
+passes state layers words = cond (eqb state 1) (isGood (checkOf (storedWords layers words))) true
 
 -- "Slot k's type stands in a lent store of words from 48k on."
 unfoldable pub allPass : List Symbol → List ℕ → Bool
 allPass [] store = true
-allPass (s ∷ table) store = passes (s .state) (s .layers) store && allPass table (drop 48 store)
+allPass (s ∷ table) store = passes (s .state) (s .layers) (take 48 store) && allPass table (drop 48 store)
 
 -- "A table is in order when it has at most 128 records, states are 0 to 2, taken records precede free ones, no taken id
 -- repeats, each typed record's words pass checks 1-3, and the store has exactly 48 words for each record."

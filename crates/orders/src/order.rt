@@ -1,7 +1,8 @@
 use checks::is_type;
+use columns::stored_words;
 ghost use mathlib.Core.Path.{_≡_};
-ghost use Prim.Native.Nat.{_*_, _≤_, _<_};
-ghost use lib.ListN.{length, getD};
+ghost use Prim.Native.Nat.{_≤_, _<_};
+ghost use lib.ListN.{getD};
 ghost use Rattle.columns.specs.Rows.{rowAt, readFrom};
 ghost use Rattle.orders.specs.Order as order;
 ghost use Rattle.orders.specs.Standing.{Noted, stands};
@@ -36,22 +37,17 @@ fn repeats(flat: &[u64; 768], k: usize, noted: &[bool; 512]) -> bool
 
 // Whether the words of a record pass the checks 1 to 3, if it is typed.
 fn passes(state: u64, layers: u64, words: &[u64]) -> bool
-    requires { ⌜ 48 ≤ length (now words) ⌝ }
     ensures { λ r. ⌜ r ≡ order.passes state layers (now (words .entry)) ⌝ }
 {
     if state != 1 {
         return true;
     }
-    if layers > 16 {
-        return false;
-    }
-    let n = (layers * 3) as usize;
-    is_type(&words[..n])
+    is_type(stored_words(words, layers))
 }
 
 // Whether the record of row k can stand after those before it, one of which is free or none.
 fn stands_after(flat: &[u64; 768], k: usize, noted: &[bool; 512], free: bool, words: &[u64]) -> bool
-    requires { ⌜ (k < 128) × Noted (now noted) (now flat) k × (48 ≤ length (now words)) ⌝ }
+    requires { ⌜ (k < 128) × Noted (now noted) (now flat) k ⌝ }
     ensures { λ r. ⌜ r ≡ stands free (readFrom (now (flat .entry)) 0 k) (rowAt (now (flat .entry)) k) (now (words .entry)) ⌝ }
 {
     let state = flat[k + 384];
@@ -86,7 +82,7 @@ pub fn in_order(flat: &[u64; 768], n: usize, store: &[u64]) -> bool
     let mut k = 0;
     while k < n {
         let at = k * 48;
-        if !stands_after(flat, k, &noted, free, &store[at..]) {
+        if !stands_after(flat, k, &noted, free, &store[at..at + 48]) {
             return false;
         }
         free = flat[k + 384] == 0;

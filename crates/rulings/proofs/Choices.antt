@@ -9,34 +9,34 @@ use Rattle.equalities.specs.Equalities.{identical}
 use Rattle.relations.specs.Relations.{declared, concretization}
 use Rattle.coercions.specs.Coercions.{coerces}
 use Rattle.rulings.specs.Rulings.{lineOf}
-use Rattle.rulings.specs.declared.lines.Line.the-variants as line
+use Rattle.rulings.specs.Line as line
 
 -- p: poisoned; a: the symbol is authoritative; n: the new identifier is; s and o: the stored and the offered type
 module _ (p a n : Bool) (s o : List Layer) where
-  pub poisoned : p ≡ true → line.Poisoned ≡ lineOf p a n s o
+  pub poisoned : p ≡ true → line.poisoned ≡ lineOf p a n s o
   unfolding lineOf
   poisoned e = rw e
 
   module _ (e : p ≡ false) (f g : Bool) (i : f ≡ wellFormed o) (j : g ≡ wellFormed s) where
-    pub ill-formed : not (f && g) ≡ true → line.IllFormed ≡ lineOf p a n s o
+    pub ill-formed : not (f && g) ≡ true → line.illFormed ≡ lineOf p a n s o
     unfolding lineOf
     ill-formed t = rw (e, ← i, ← j, t)
 
     module _ (t : not (f && g) ≡ false) (h k : Bool) (u : h ≡ identical s o) (v : k ≡ concretization s o) where
-      pub kept : (h || k) ≡ true → line.Kept ≡ lineOf p a n s o
+      pub kept : (h || k) ≡ true → line.kept ≡ lineOf p a n s o
       unfolding lineOf
       kept y = rw (e, ← i, ← j, t, ← u, ← v, y)
 
       module _ (y : (h || k) ≡ false) (d : Bool) (w : d ≡ declared o s) where
-        pub type-replaced : (a && d) ≡ true → line.TypeReplaced ≡ lineOf p a n s o
+        pub type-replaced : (a && d) ≡ true → line.typeReplaced ≡ lineOf p a n s o
         unfolding lineOf
         type-replaced z = rw (e, ← i, ← j, t, ← u, ← v, y, ← w, z)
 
         module _ (z : (a && d) ≡ false) (b c : Bool) (x : b ≡ concretization o s) (m : c ≡ coerces o s) where
-          pub both-replaced : (n && (b || c)) ≡ true → line.BothReplaced ≡ lineOf p a n s o
+          pub both-replaced : (n && (b || c)) ≡ true → line.bothReplaced ≡ lineOf p a n s o
           unfolding lineOf
           both-replaced q = rw (e, ← i, ← j, t, ← u, ← v, y, ← w, z, ← x, ← m, q)
 
-          pub conflicting : (n && (b || c)) ≡ false → line.Conflicting ≡ lineOf p a n s o
+          pub conflicting : (n && (b || c)) ≡ false → line.conflicting ≡ lineOf p a n s o
           unfolding lineOf
           conflicting q = rw (e, ← i, ← j, t, ← u, ← v, y, ← w, z, ← x, ← m, q)

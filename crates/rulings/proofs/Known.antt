@@ -9,27 +9,27 @@ use Rattle.equalities.specs.Equalities.{identical}
 use Rattle.relations.specs.Relations.{declared, concretization}
 use Rattle.coercions.specs.Coercions.{coerces}
 use Rattle.rulings.specs.Rulings.{lineOf}
-use Rattle.rulings.specs.declared.lines.Line.{Line}
-use Rattle.rulings.specs.declared.lines.Line.the-variants as line
+use Rattle.rulings.specs.Line as line
+use Rattle.rulings.specs.Line.{Line}
 
 -- the lines, by the tests alone
 abbrev first : Bool → Bool → Bool → Bool → Bool → Line
 first p f k d b =
-    cond p line.Poisoned
-    (cond (not f) line.IllFormed
-    (cond k line.Kept
-    (cond d line.TypeReplaced
-    (cond b line.BothReplaced
-    line.Conflicting))))
+    cond p line.poisoned
+    (cond (not f) line.illFormed
+    (cond k line.kept
+    (cond d line.typeReplaced
+    (cond b line.bothReplaced
+    line.conflicting))))
 
 -- p: poisoned; f: both types are well formed; k: the stored type holds the offered one
 abbrev pub Knows : (p f k : Bool) → Line → Type 0
-Knows p f k line.Poisoned = p ≡ true
-Knows p f k line.IllFormed = f ≡ false
-Knows p f k line.Kept = k ≡ true
-Knows p f k line.TypeReplaced = f ≡ true
-Knows p f k line.BothReplaced = f ≡ true
-Knows p f k line.Conflicting = Unit
+Knows p f k line.poisoned = p ≡ true
+Knows p f k line.illFormed = f ≡ false
+Knows p f k line.kept = k ≡ true
+Knows p f k line.typeReplaced = f ≡ true
+Knows p f k line.bothReplaced = f ≡ true
+Knows p f k line.conflicting = Unit
 
 knows : (p f k d b : Bool) → Knows p f k (first p f k d b)
 knows true f k d b = refl

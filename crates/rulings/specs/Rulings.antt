@@ -6,8 +6,10 @@ use Rattle.forms.specs.Formed.{wellFormed}
 use Rattle.equalities.specs.Equalities.{identical}
 use Rattle.relations.specs.Relations.{declared, concretization}
 use Rattle.coercions.specs.Coercions.{coerces}
-use Rattle.rulings.specs.declared.lines.Line.{Line}
-use Rattle.rulings.specs.declared.lines.Line.the-variants as line
+use Rattle.rulings.specs.Line as line
+use Rattle.rulings.specs.Line.{Line}
+use Rattle.rulings.specs.declared.lines.Line as coded
+use Rattle.rulings.specs.declared.lines.Line.the-variants as code
 
 -- "poisoned: accepted, nothing changes. Offered type, then stored type, ill formed: 4. Identical, or stored is a
 -- concretization of offered: accepted, nothing changes. Symbol authoritative and offered is declared as stored: type
@@ -15,9 +17,18 @@ use Rattle.rulings.specs.declared.lines.Line.the-variants as line
 -- replaced. Else 7."
 unfoldable pub lineOf : Bool → Bool → Bool → List Layer → List Layer → Line
 lineOf poisoned authoritative newly stored offered =
-    cond poisoned line.Poisoned
-    (cond (not (wellFormed offered && wellFormed stored)) line.IllFormed
-    (cond (identical stored offered || concretization stored offered) line.Kept
-    (cond (authoritative && declared offered stored) line.TypeReplaced
-    (cond (newly && (concretization offered stored || coerces offered stored)) line.BothReplaced
-    line.Conflicting))))
+    cond poisoned line.poisoned
+    (cond (not (wellFormed offered && wellFormed stored)) line.illFormed
+    (cond (identical stored offered || concretization stored offered) line.kept
+    (cond (authoritative && declared offered stored) line.typeReplaced
+    (cond (newly && (concretization offered stored || coerces offered stored)) line.bothReplaced
+    line.conflicting))))
+
+-- Which line each of the code's is.
+abbrev pub ofLine : coded.Line → Line
+ofLine code.Poisoned = line.poisoned
+ofLine code.IllFormed = line.illFormed
+ofLine code.Kept = line.kept
+ofLine code.TypeReplaced = line.typeReplaced
+ofLine code.BothReplaced = line.bothReplaced
+ofLine code.Conflicting = line.conflicting

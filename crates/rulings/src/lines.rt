@@ -5,7 +5,7 @@ use relations::can_be_concretization_of;
 use relations::can_be_declared_as;
 ghost use mathlib.Core.Path.{_≡_};
 ghost use Rattle.layers.specs.Layers.{layers};
-ghost use Rattle.rulings.specs.Rulings.{lineOf};
+ghost use Rattle.rulings.specs.Rulings.{lineOf, ofLine};
 
 // The lines of the rule, in its order.
 pub enum Line {
@@ -25,7 +25,7 @@ pub fn decide(
     stored: &[u64],
     offered: &[u64],
 ) -> Line
-    ensures { λ r. ⌜ r ≡ lineOf poisoned authoritative newly (layers (now (stored .entry))) (layers (now (offered .entry))) ⌝ }
+    ensures { λ r. ⌜ ofLine r ≡ lineOf poisoned authoritative newly (layers (now (stored .entry))) (layers (now (offered .entry))) ⌝ }
 {
     if poisoned {
         return Line::Poisoned;

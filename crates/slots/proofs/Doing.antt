@@ -1,4 +1,4 @@
--- What is done to a record, by the operation that the code found.
+-- What is done to a record, by the act that the code found.
 -- Assumes nothing.
 use mathlib.Core.Path.{_≡_}
 use mathlib.Core.Bool.{Bool, true, false}
@@ -8,12 +8,14 @@ use Rattle.buffers.specs.Written.{written}
 use Rattle.columns.specs.declared.symbol.Symbol.{Symbol}
 use Rattle.answers.specs.declared.flat.Answer.{Answer}
 use Rattle.updates.specs.declared.record.Updated.{Updated}
-use Rattle.operations.specs.declared.operation.Operation.{Operation}
-use Rattle.operations.specs.Operations.{offersType}
-use Rattle.slots.specs.Deeds.{typed, poisoned, filled, filledWords, overwrites, seen}
+use Rattle.updates.specs.Updates.{typed}
+use Rattle.operations.specs.Act as act
+use Rattle.operations.specs.Operations.{ofAct, offersType}
+use Rattle.operations.specs.declared.operation.Act.{Act}
+use Rattle.slots.specs.Deeds.{poisoned, filled, filledWords, overwrites, seen}
 
 -- a record that is filled
-module _ (op : Operation) (id : ℕ) (authority : Bool) (place mark : ℕ) (offered ws : List ℕ) (t : Bool) (e : t ≡ offersType op) where
+module _ (op : act.Act) (id : ℕ) (authority : Bool) (place mark : ℕ) (offered ws : List ℕ) (t : Bool) (e : t ≡ offersType op) where
   pub fills-type : (s : Symbol) → t ≡ true → s ≡ typed id authority place offered → s ≡ filled op id authority place mark offered
   fills-type s h q = rw (← e, h) q
 
@@ -26,17 +28,17 @@ module _ (op : Operation) (id : ℕ) (authority : Bool) (place mark : ℕ) (offe
   pub words-stay : t ≡ false → ws ≡ filledWords op offered ws
   words-stay h = rw (← e, h)
 
--- the operation that the code found
-module _ (op k : Operation) (e : op ≡ k) (ws : List ℕ) (id : ℕ) (authority : Bool) (place mark : ℕ) (offered : List ℕ) (s : Symbol) where
-  pub overwrites-by : (r : Updated) → r ≡ seen (overwrites k s ws id authority place mark offered) →
-      r ≡ seen (overwrites op s ws id authority place mark offered)
+-- the act that the code found
+module _ (a k : Act) (e : a ≡ k) (ws : List ℕ) (id : ℕ) (authority : Bool) (place mark : ℕ) (offered : List ℕ) (s : Symbol) where
+  pub overwrites-by : (r : Updated) → r ≡ seen (overwrites (ofAct k) s ws id authority place mark offered) →
+      r ≡ seen (overwrites (ofAct a) s ws id authority place mark offered)
   overwrites-by r q = rw e q
 
-  pub overwrites-as : (t : Symbol) (a : Answer) → t ≡ overwrites k s ws id authority place mark offered .symbol →
-      a ≡ overwrites k s ws id authority place mark offered .answer →
-      record { symbol = t; answer = a } ≡ seen (overwrites op s ws id authority place mark offered)
-  overwrites-as t a p q = rw (e, p, q)
+  pub overwrites-as : (t : Symbol) (x : Answer) → t ≡ overwrites (ofAct k) s ws id authority place mark offered .symbol →
+      x ≡ overwrites (ofAct k) s ws id authority place mark offered .answer →
+      record { symbol = t; answer = x } ≡ seen (overwrites (ofAct a) s ws id authority place mark offered)
+  overwrites-as t x p q = rw (e, p, q)
 
-  pub overwrites-words : (after : List ℕ) → after ≡ overwrites k s ws id authority place mark offered .words →
-      after ≡ overwrites op s ws id authority place mark offered .words
+  pub overwrites-words : (after : List ℕ) → after ≡ overwrites (ofAct k) s ws id authority place mark offered .words →
+      after ≡ overwrites (ofAct a) s ws id authority place mark offered .words
   overwrites-words after q = rw e q

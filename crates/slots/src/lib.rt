@@ -1,4 +1,4 @@
-// What an operation does to the record of a slot and to its words.
+// What an act does to the record of a slot and to its words.
 mod writing;
 
 pub use writing::fill;

@@ -1,25 +1,14 @@
 use answers::accepted;
 use buffers::write_words;
 use columns::Symbol;
-use operations::Operation;
+use operations::Act;
 use operations::offers_type;
 use updates::Updated;
+use updates::typed;
 use updates::update;
 ghost use mathlib.Core.Path.{_≡_};
+ghost use Rattle.operations.specs.Operations.{ofAct};
 ghost use Rattle.slots.specs.Deeds as rules;
-
-fn typed(id: u32, authority: bool, place: u64, offered: &[u64]) -> Symbol
-    ensures { λ r. ⌜ r ≡ rules.typed id authority place (now (offered .entry)) ⌝ }
-{
-    Symbol {
-        id,
-        authority,
-        place,
-        state: 1,
-        layers: (offered.len() / 3) as u64,
-        mark: 0,
-    }
-}
 
 fn poisoned(id: u32, authority: bool, place: u64, mark: u64) -> Symbol
     ensures { λ r. ⌜ r ≡ rules.poisoned id authority place mark ⌝ }
@@ -36,7 +25,7 @@ fn poisoned(id: u32, authority: bool, place: u64, mark: u64) -> Symbol
 
 // The record of a type, whose words are written, or of poison.
 pub fn fill(
-    operation: Operation,
+    act: Act,
     words: &mut [u64],
     id: u32,
     authority: bool,
@@ -44,10 +33,10 @@ pub fn fill(
     mark: u64,
     offered: &[u64],
 ) -> Symbol
-    ensures { λ r. ⌜ (r ≡ rules.filled operation id authority place mark (now (offered .entry)))
-        × (now (words .exit) ≡ rules.filledWords operation (now (offered .entry)) (now (words .entry))) ⌝ }
+    ensures { λ r. ⌜ (r ≡ rules.filled (ofAct act) id authority place mark (now (offered .entry)))
+        × (now (words .exit) ≡ rules.filledWords (ofAct act) (now (offered .entry)) (now (words .entry))) ⌝ }
 {
-    if offers_type(operation) {
+    if offers_type(act) {
         write_words(words, offered);
         typed(id, authority, place, offered)
     } else {
@@ -55,9 +44,9 @@ pub fn fill(
     }
 }
 
-// What an operation does to a record that has the id, and to its words.
+// What an act does to a record that has the id, and to its words.
 pub fn overwrite(
-    operation: Operation,
+    act: Act,
     s: Symbol,
     words: &mut [u64],
     id: u32,
@@ -66,24 +55,20 @@ pub fn overwrite(
     mark: u64,
     offered: &[u64],
 ) -> Updated
-    ensures { λ r. ⌜ (r ≡ rules.seen (rules.overwrites operation s (now (words .entry)) id authority place mark (now (offered .entry))))
-        × (now (words .exit) ≡ rules.overwrites operation s (now (words .entry)) id authority place mark (now (offered .entry)) .words) ⌝ }
+    ensures { λ r. ⌜ (r ≡ rules.seen (rules.overwrites (ofAct act) s (now (words .entry)) id authority place mark (now (offered .entry))))
+        × (now (words .exit) ≡ rules.overwrites (ofAct act) s (now (words .entry)) id authority place mark (now (offered .entry)) .words) ⌝ }
 {
-    match operation {
-        Operation::PutNothing => Updated {
-            symbol: s,
-            answer: accepted(0),
-        },
-        Operation::PutPoison => Updated {
+    match act {
+        Act::PutPoison => Updated {
             symbol: poisoned(s.id, s.authority, s.place, mark),
             answer: accepted(4),
         },
-        Operation::PutType => update(s, words, id, authority, place, offered),
-        Operation::ForwardPoison => Updated {
+        Act::PutType => update(s, words, id, authority, place, offered),
+        Act::ForwardPoison => Updated {
             symbol: poisoned(id, authority, place, mark),
             answer: accepted(4),
         },
-        Operation::ForwardType => {
+        Act::ForwardType => {
             write_words(words, offered);
             Updated {
                 symbol: typed(id, authority, place, offered),

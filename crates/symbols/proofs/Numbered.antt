@@ -14,12 +14,11 @@ use Rattle.checks.specs.Check.{Place, at, nowhere, badCount, badLayer, misplace
 use Rattle.columns.specs.declared.symbol.Symbol.{Symbol}
 use Rattle.searches.specs.Search.{slotFor, firstFree}
 use Rattle.orders.specs.Order.{inOrder}
-use Rattle.operations.specs.declared.operation.Operation.{Operation}
-use Rattle.operations.specs.declared.operation.Operation.the-variants as operation
-use Rattle.operations.specs.Operations.{putsNothing}
+use Rattle.operations.specs.Act as act
+use Rattle.operations.specs.Act.{Act}
+use Rattle.ways.specs.Way as way
+use Rattle.ways.specs.Way.{Way}
 use Rattle.ways.specs.Ways.{offeredCheck, placeOf, unless, wayOf}
-use Rattle.ways.specs.declared.slot.Way.{Way}
-use Rattle.ways.specs.declared.slot.Way.the-variants as way
 
 abbrev checkNumbered : paper.Answer ℕ → Bool
 checkNumbered (given n) = true
@@ -27,10 +26,9 @@ checkNumbered nothing = true
 checkNumbered (refused n p) = not (eqb n 0)
 
 abbrev pub numbered : Way → Bool
-numbered (way.Refused n p) = not (eqb n 0)
-numbered way.Kept = true
-numbered (way.Found k) = true
-numbered (way.Free k) = true
+numbered (way.refused n p) = not (eqb n 0)
+numbered (way.found k) = true
+numbered (way.free k) = true
 
 check-numbered : (ws : List ℕ) → checkNumbered (checkOf ws) ≡ true
 unfolding checkOf
@@ -42,31 +40,29 @@ check-numbered ws = by-parts (badCount (length ws)) (badLayer 0 (layers ws)) (mi
     by-parts false nowhere (at i) n = refl
     by-parts false nowhere nowhere n = refl
 
-offered-numbered : (op : Operation) (offered : List ℕ) → checkNumbered (offeredCheck op offered) ≡ true
-offered-numbered operation.PutNothing offered = refl
-offered-numbered operation.PutPoison offered = refl
-offered-numbered operation.PutType offered = check-numbered offered
-offered-numbered operation.ForwardPoison offered = refl
-offered-numbered operation.ForwardType offered = check-numbered offered
+offered-numbered : (a : Act) (offered : List ℕ) → checkNumbered (offeredCheck a offered) ≡ true
+offered-numbered act.putPoison offered = refl
+offered-numbered act.putType offered = check-numbered offered
+offered-numbered act.forwardPoison offered = refl
+offered-numbered act.forwardType offered = check-numbered offered
 
 unless-numbered : (a : paper.Answer ℕ) (w : Way) → checkNumbered a ≡ true → numbered w ≡ true → numbered (unless a w) ≡ true
 unless-numbered (given n) w e f = f
 unless-numbered nothing w e f = f
 unless-numbered (refused n p) w e f = e
 
-place-numbered : (op : Operation) (id : ℕ) (table : List Symbol) (store : List ℕ) → numbered (placeOf op id table store) ≡ true
+place-numbered : (id : ℕ) (table : List Symbol) (store : List ℕ) → numbered (placeOf id table store) ≡ true
 unfolding placeOf
-place-numbered op id table store = by-parts (inOrder table store) (putsNothing op) (ltb (slotFor id table) (length table)) (ltb (firstFree table) (length table))
+place-numbered id table store = by-parts (inOrder table store) (ltb (slotFor id table) (length table)) (ltb (firstFree table) (length table))
   where
-    by-parts : (o s t u : Bool) →
-        numbered (cond o (cond s way.Kept (cond t (way.Found (slotFor id table)) (cond u (way.Free (firstFree table)) (way.Refused 13 0)))) (way.Refused 12 0)) ≡ true
-    by-parts false s t u = refl
-    by-parts true true t u = refl
-    by-parts true false true u = refl
-    by-parts true false false true = refl
-    by-parts true false false false = refl
+    by-parts : (o t u : Bool) →
+        numbered (cond o (cond t (way.found (slotFor id table)) (cond u (way.free (firstFree table)) (way.refused 13 0))) (way.refused 12 0)) ≡ true
+    by-parts false t u = refl
+    by-parts true true u = refl
+    by-parts true false true = refl
+    by-parts true false false = refl
 
-pub way-numbered : (op : Operation) (id : ℕ) (offered : List ℕ) (table : List Symbol) (store : List ℕ) → numbered (wayOf op id offered table store) ≡ true
+pub way-numbered : (a : Act) (id : ℕ) (offered : List ℕ) (table : List Symbol) (store : List ℕ) → numbered (wayOf a id offered table store) ≡ true
 unfolding wayOf
-way-numbered op id offered table store =
-    unless-numbered (offeredCheck op offered) (placeOf op id table store) (offered-numbered op offered) (place-numbered op id table store)
+way-numbered a id offered table store =
+    unless-numbered (offeredCheck a offered) (placeOf id table store) (offered-numbered a offered) (place-numbered id table store)

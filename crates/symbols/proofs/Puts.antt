@@ -2,14 +2,14 @@
 -- Assumes nothing.
 use mathlib.Core.Path.{_≡_, refl, sym, ap, subst, _∙_}
 use mathlib.Core.Bool.{Bool, true, false, cond, not, _||_, false≢true}
-use mathlib.Core.List.{List, _++_}
+use mathlib.Core.List.{List}
 use mathlib.Core.Logic.{_≢_}
-use Prim.Native.Nat.{ℕ, _+_, _-_, _*_, _/_, _%_, _≤_, _<_}
+use Prim.Native.Nat.{ℕ, _-_, _*_, _%_, _≤_, _<_}
 use native.Mathlib.Omega.{arith}
 use lib.Dec.{eqb, leb}
-use lib.ListN.{length, take, drop, getD, set, length-set, length-drop, take-append-drop}
-use lib.Seq.{set-getD, length-take-le, getD-set-same, drop-at}
-use borrow.Author.Tests.{eq-eqb, ne-eqb, lt-ltb, le-ltb, lt-leb, leb-true, leb-false, eqb-false}
+use lib.ListN.{length, drop, getD, set, length-set, take-append-drop}
+use lib.Seq.{set-getD, getD-set-same}
+use borrow.Author.Tests.{eq-eqb, ne-eqb, lt-ltb, lt-leb, leb-true, leb-false, eqb-false}
 use Rattle.layers.specs.Answer as paper
 use Rattle.layers.specs.Answer.{given, nothing, refused}
 use Rattle.layers.specs.Layers.{layers}
@@ -19,65 +19,60 @@ use Rattle.relations.specs.Relations.{concretization}
 use Rattle.equalities.proofs.Theorems.{identical-reflexive}
 use Rattle.columns.specs.declared.symbol.Symbol.{Symbol}
 use Rattle.columns.specs.Rows.{vacant, free}
+use Rattle.columns.specs.Stored.{slotWords, storedWords}
 use Rattle.searches.specs.Search.{slotFor}
-use Rattle.orders.specs.Order.{passes, inOrder, taken}
+use Rattle.orders.specs.Order.{inOrder, taken}
 use Rattle.orders.proofs.Ordered.{ordered, in-order}
-use Rattle.symbols.proofs.Setting.{state-at, slot-taken, slot-kept}
+use Rattle.symbols.proofs.Setting.{state-at, slot-taken, slot-kept, slot-written}
 use Rattle.answers.specs.declared.flat.Answer.{Answer}
-use Rattle.answers.specs.Flat.{accepted, notAccepted}
-use Rattle.updates.specs.Updates.{storedOf}
+use Rattle.answers.specs.Flat.{accepted}
 use Rattle.updates.proofs.Cases.{by-lines}
 use Rattle.updates.proofs.Theorems.{poison-wins as update-poison, accepted-holds-offered}
-use Rattle.operations.specs.declared.operation.Operation.the-variants as operation
+use Rattle.operations.specs.Act as act
+use Rattle.operations.specs.Operation.{putNothing, acts}
 use Rattle.ways.specs.Ways.{placeOf, unless, wayOf}
 use Rattle.slots.specs.Deeds.{Deed, overwrites}
-use Rattle.changes.specs.Changes.{Outcome, outcomeBy, outcome}
-use Rattle.lookups.specs.Gets.{markFor, got, storedType, typeIn, typeOf}
-use Rattle.lookups.specs.declared.get.Got.{Got}
-use Rattle.lookups.specs.declared.get.Got.the-variants as got′
-use Rattle.ways.specs.declared.slot.Way.{Way}
-use Rattle.ways.specs.declared.slot.Way.the-variants as way
-use Rattle.ways.proofs.Decided.{Within, found-is, found-in, found-checked, kept-by, notRefused}
-use Rattle.symbols.proofs.Deeds.{Fine, few-words, whole-layers}
+use Rattle.changes.specs.Changes.{Outcome, withSlot, outcomeBy, outcome}
+use Rattle.lookups.specs.Gets.{markFor, got, typeIn, typeOf}
+use Rattle.lookups.specs.Got as got′
+use Rattle.lookups.specs.Got.{Got}
+use Rattle.ways.specs.Way as way
+use Rattle.ways.specs.Way.{Way}
+use Rattle.ways.proofs.Decided.{Within, found-is, found-in, found-checked, notRefused}
+use Rattle.symbols.proofs.Deeds.{few-words, whole-layers}
 use Rattle.symbols.proofs.Numbered.{numbered, way-numbered}
-use Rattle.symbols.proofs.Theorems.{found-fine, found-order, way-finds, held}
+use Rattle.symbols.proofs.Theorems.{all, found-fine, found-order, way-finds, held}
 
 -- "Put with nothing: accepted, unchanged.", of a table in order.
-pub put-of-nothing : (id : ℕ) (authority : Bool) (place mark : ℕ) (offered : List ℕ) (table : List Symbol) (store : List ℕ) →
-    outcome operation.PutNothing id authority place mark offered table store
-    ≡ record { answer = cond (inOrder table store) (accepted 0) (notAccepted 12 0); table = table; store = store }
-unfolding outcome wayOf placeOf
-put-of-nothing id authority place mark offered table store = by-order (inOrder table store)
-  where
-    by-order : (o : Bool) → outcomeBy (cond o way.Kept (way.Refused 12 0)) operation.PutNothing id authority place mark offered table store
-        ≡ record { answer = cond o (accepted 0) (notAccepted 12 0); table = table; store = store }
-    by-order true = refl
-    by-order false = refl
+pub put-of-nothing : (id : ℕ) (authority : Bool) (place mark : ℕ) (offered : List ℕ) (table : List Symbol) (store : List ℕ) → inOrder table store ≡ true →
+    outcome putNothing id authority place mark offered table store ≡ record { answer = accepted 0; table = table; store = store }
+unfolding outcome
+put-of-nothing id authority place mark offered table store o = rw o
 
 -- Poison wins until a forward declaration: a put of a type under a poisoned name is accepted and changes nothing.
 module _ (id : ℕ) (authority : Bool) (place mark : ℕ) (offered : List ℕ) (table : List Symbol) (store : List ℕ) where
   abbrev isPoisoned : Got → Bool
-  isPoisoned got′.Absent = false
-  isPoisoned (got′.Typed k) = false
-  isPoisoned (got′.Poisoned m) = true
-  isPoisoned (got′.Refused n p) = false
+  isPoisoned got′.absent = false
+  isPoisoned (got′.typed k) = false
+  isPoisoned (got′.poisoned m) = true
+  isPoisoned (got′.refused n p) = false
 
-  under-poison : (asking : Bool) (m : ℕ) → got id asking table store ≡ got′.Poisoned m →
+  under-poison : (asking : Bool) (m : ℕ) → got id asking table store ≡ got′.poisoned m →
       (inOrder table store ≡ true) × (leb (length table) (slotFor id table) ≡ false) × (eqb (getD table (slotFor id table) vacant .state) 1 ≡ false)
   unfolding got
   under-poison asking m e =
       by-parts (inOrder table store) (leb (length table) (slotFor id table)) (eqb (getD table (slotFor id table) vacant .state) 1) (ap isPoisoned e)
     where
       by-parts : (o t u : Bool) →
-          isPoisoned (cond o (cond t got′.Absent (cond u (got′.Typed (slotFor id table)) (got′.Poisoned (markFor asking (getD table (slotFor id table) vacant .mark))))) (got′.Refused 12 0)) ≡ true →
+          isPoisoned (cond o (cond t got′.absent (cond u (got′.typed (slotFor id table)) (got′.poisoned (markFor asking (getD table (slotFor id table) vacant .mark))))) (got′.refused 12 0)) ≡ true →
           (o ≡ true) × (t ≡ false) × (u ≡ false)
       by-parts false t u f = absurd (false≢true f)
       by-parts true true u f = absurd (false≢true f)
       by-parts true false true f = absurd (false≢true f)
       by-parts true false false f = (refl, refl, refl)
 
-  pub poison-wins : (asking : Bool) (m : ℕ) → got id asking table store ≡ got′.Poisoned m → notRefused (checkOf offered) ≡ true →
-      outcome operation.PutType id authority place mark offered table store ≡ record { answer = accepted 0; table = table; store = store }
+  pub poison-wins : (asking : Bool) (m : ℕ) → got id asking table store ≡ got′.poisoned m → notRefused (checkOf offered) ≡ true →
+      outcome (acts act.putType) id authority place mark offered table store ≡ record { answer = accepted 0; table = table; store = store }
   unfolding outcome wayOf placeOf
   poison-wins asking m e good =
       let k = slotFor id table in
@@ -89,110 +84,97 @@ module _ (id : ℕ) (authority : Bool) (place mark : ℕ) (offered : List ℕ) (
       let not-typed : s .state ≢ 1 = eqb-false (s .state) 1 (parts .2) in
       let known : s .state ≤ 2 = leb-true (s .state) 2 (state-at table k (order .states) below) in
       let two : s .state ≡ 2 = omega (arith, known, taken-there, not-typed) in
-      let wins = update-poison s (drop (k * 48) store) id authority place offered two in
+      let wins = update-poison s (slotWords store k) id authority place offered two in
       by-check (checkOf offered) good
-      (rw (parts .0, lt-ltb k (length table) below, wins .0, wins .1, set-getD, take-append-drop))
+      (rw (parts .0, lt-ltb k (length table) below, wins .0, wins .1, set-getD, take-append-drop 48 (drop (k * 48) store), take-append-drop (k * 48) store))
     where
       by-check : (a : paper.Answer ℕ) → notRefused a ≡ true →
-          outcomeBy (placeOf operation.PutType id table store) operation.PutType id authority place mark offered table store ≡ record { answer = accepted 0; table = table; store = store } →
-          outcomeBy (unless a (placeOf operation.PutType id table store)) operation.PutType id authority place mark offered table store ≡ record { answer = accepted 0; table = table; store = store }
+          outcomeBy (placeOf id table store) act.putType id authority place mark offered table store ≡ record { answer = accepted 0; table = table; store = store } →
+          outcomeBy (unless a (placeOf id table store)) act.putType id authority place mark offered table store ≡ record { answer = accepted 0; table = table; store = store }
       by-check (given n) g h = h
       by-check nothing g h = h
       by-check (refused n p) g h = absurd (false≢true g)
-
-first-test : (a b : Bool) → cond a b false ≡ true → a ≡ true
-first-test true b e = refl
-first-test false b e = absurd (false≢true e)
 
 -- After an accepted put of a type under a name that is not poisoned, the type that get answers is identical to the offered
 -- one or a concretization of it.
 module _ (id : ℕ) (authority : Bool) (place mark : ℕ) (offered : List ℕ) (table : List Symbol) (store : List ℕ) where
   abbrev put : Outcome
-  put = outcome operation.PutType id authority place mark offered table store
+  put = outcome (acts act.putType) id authority place mark offered table store
 
   abbrev part : ℕ → List ℕ
-  part k = drop (k * 48) store
+  part k = slotWords store k
 
   abbrev Suits : List ℕ → Type 0
   Suits ws = (identical (layers ws) (layers offered) || concretization (layers ws) (layers offered)) ≡ true
 
   -- a typed record at the slot of its id is what get finds, and its words are those that the update speaks of
-  typed-there : (k : ℕ) (d : Deed) → Within table store k → Fine id (part k) d → d .symbol .state ≡ 1 →
-      slotFor id (set table k (d .symbol)) ≡ k → inOrder (set table k (d .symbol)) (take (k * 48) store ++ d .words) ≡ true →
-      typeOf id (set table k (d .symbol)) (take (k * 48) store ++ d .words) ≡ storedOf (d .symbol .layers) (d .words)
-  unfolding typeOf got storedType storedOf passes
-  typed-there k d w f one s order =
+  typed-there : (k : ℕ) (d : Deed) → Within table store k → length (d .words) ≡ 48 → d .symbol .state ≡ 1 →
+      slotFor id (set table k (d .symbol)) ≡ k → inOrder (set table k (d .symbol)) (withSlot store k (d .words)) ≡ true →
+      typeOf id (set table k (d .symbol)) (withSlot store k (d .words)) ≡ storedWords (d .symbol .layers) (d .words)
+  unfolding typeOf got
+  typed-there k d w all one s order =
       let table′ = set table k (d .symbol) in
-      let store′ = take (k * 48) store ++ d .words in
+      let store′ = withSlot store k (d .words) in
       let n : length table′ ≡ length table = length-set table k (d .symbol) in
-      let full : length store′ ≡ length table′ * 48 = ordered table′ store′ order .full in
       let is : getD table′ k vacant ≡ d .symbol = getD-set-same table k (d .symbol) vacant (w .below) in
       let room : k * 48 ≤ length store = omega (arith, w .below, w .order .full) in
       let below : k < length table′ = omega (arith, n, w .below) in
-      let inside : k < length store′ / 48 = omega (arith, n, full, w .below) in
-      let few : d .symbol .layers ≤ 16 = leb-true (d .symbol .layers) 16 (first-test (leb (d .symbol .layers) 16) _ (rw one at (f .pass))) in
-      let sized : length (d .words) ≡ length store - k * 48 = f .sized ∙ length-drop (k * 48) store in
-      let long : 48 ≤ length (d .words) = omega (arith, sized, w .below, w .order .full) in
-      let held : d .symbol .layers ≤ length (d .words) / 3 = omega (arith, few, long) in
-      let words : drop (k * 48) store′ ≡ d .words = drop-at (take (k * 48) store) (d .words) (k * 48) (length-take-le (k * 48) store room) in
-      let found : got id true table′ store′ ≡ got′.Typed k = rw (order, s, lt-leb (length table′) k below, is, eq-eqb (d .symbol .state) 1 one) in
-      let there : storedType store′ k (getD table′ k vacant .layers) ≡ storedOf (d .symbol .layers) (d .words) =
-      rw (is, le-ltb 16 (d .symbol .layers) few, lt-leb (length store′ / 48) k inside, words, le-ltb (length (d .words) / 3) (d .symbol .layers) held) in
-      ap (λ (g : Got). typeIn g table′ store′) found ∙ there
+      let found : got id true table′ store′ ≡ got′.typed k = rw (order, s, lt-leb (length table′) k below, is, eq-eqb (d .symbol .state) 1 one) in
+      ap (λ (g : Got). typeIn g table′ store′) found ∙ (rw (is, slot-written store k (d .words) room all))
 
-  module _ (k : ℕ) (e : wayOf operation.PutType id offered table store ≡ way.Found k) (clean : (m : ℕ) → got id true table store ≡ got′.Poisoned m → ⊥) where
+  module _ (k : ℕ) (e : wayOf act.putType id offered table store ≡ way.found k) (clean : (m : ℕ) → got id true table store ≡ got′.poisoned m → ⊥) where
     abbrev s : Symbol
     s = getD table k vacant
 
     in-table : Within table store k
-    in-table = found-in operation.PutType id offered table store k e
+    in-table = found-in act.putType id offered table store k e
 
     not-poisoned : s .state ≡ 2 → ⊥
     unfolding got
     not-poisoned two =
-        let at = found-is operation.PutType id offered table store k e in
+        let at = found-is act.putType id offered table store k e in
         clean (s .mark)
         (rw (in-order table store (in-table .order), ← at, lt-leb (length table) k (in-table .below), ne-eqb (s .state) 1 (λ q. omega (arith, q, two))))
 
     is-typed : s .state ≡ 1
     is-typed =
-        let at = found-is operation.PutType id offered table store k e in
+        let at = found-is act.putType id offered table store k e in
         let below = subst (λ (j : ℕ). j < length table) at (in-table .below) in
         let taken-there : s .state ≢ 0 = eqb-false (s .state) 0 (subst (λ (j : ℕ). free (getD table j vacant) ≡ false) (sym at) (slot-taken id table below)) in
         let known : s .state ≤ 2 = leb-true (s .state) 2 (state-at table k (in-table .order .states) (in-table .below)) in
         omega (arith, known, taken-there, not-poisoned)
 
     abbrev d : Deed
-    d = overwrites operation.PutType s (part k) id authority place mark offered
+    d = overwrites act.putType s (part k) id authority place mark offered
 
     still-typed : d .symbol .state ≡ 1
     still-typed = by-lines s (part k) id authority place offered (λ r zs a. r .state ≡ 1) is-typed is-typed refl refl is-typed
 
-    found-suits : d .answer .refusal ≡ 0 → Suits (typeOf id (set table k (d .symbol)) (take (k * 48) store ++ d .words))
+    found-suits : d .answer .refusal ≡ 0 → Suits (typeOf id (set table k (d .symbol)) (withSlot store k (d .words)))
     found-suits r =
-        let at = found-is operation.PutType id offered table store k e in
+        let at = found-is act.putType id offered table store k e in
         let below = subst (λ (j : ℕ). j < length table) at (in-table .below) in
-        let fine = found-fine operation.PutType id authority place mark offered table store k e in
-        let good = found-checked operation.PutType id offered table store k e in
+        let fine = found-fine act.putType id authority place mark offered table store k e in
+        let good = found-checked act.putType id offered table store k e in
         let slot = ap (λ (j : ℕ). slotFor id (set table j (d .symbol))) at ∙ slot-kept id table (d .symbol) below (fine .named) (fine .taken) ∙ sym at in
-        let order = in-order (set table k (d .symbol)) (take (k * 48) store ++ d .words) (found-order operation.PutType id authority place mark offered table store k e) in
-        let room : length offered ≤ length (part k) = simp length-drop (omega (arith, few-words offered good, in-table .below, in-table .order .full)) in
+        let order = in-order (set table k (d .symbol)) (withSlot store k (d .words)) (found-order act.putType id authority place mark offered table store k e) in
+        let full = all act.putType id authority place mark offered table store k in-table in
+        let room : length offered ≤ length (part k) = omega (arith, few-words offered good, full) in
         let whole : length offered % 3 ≡ 0 = omega (arith, whole-layers offered good) in
-        subst Suits (sym (typed-there k d in-table fine still-typed slot order))
+        subst Suits (sym (typed-there k d in-table (fine .sized ∙ full) still-typed slot order))
         (accepted-holds-offered s (part k) id authority place offered room whole not-poisoned r)
 
-  pub accepted-put-holds : ((m : ℕ) → got id true table store ≡ got′.Poisoned m → ⊥) → put .answer .refusal ≡ 0 →
+  pub accepted-put-holds : ((m : ℕ) → got id true table store ≡ got′.poisoned m → ⊥) → put .answer .refusal ≡ 0 →
       Suits (typeOf id (put .table) (put .store))
   unfolding outcome
-  accepted-put-holds clean r = by-way (wayOf operation.PutType id offered table store) refl r
+  accepted-put-holds clean r = by-way (wayOf act.putType id offered table store) refl r
     where
-      by-way : (w : Way) → wayOf operation.PutType id offered table store ≡ w →
-          let o = outcomeBy w operation.PutType id authority place mark offered table store in o .answer .refusal ≡ 0 → Suits (typeOf id (o .table) (o .store))
-      by-way (way.Refused n p) e r =
-          absurd (false≢true (sym (ap (λ (m : ℕ). not (eqb m 0)) r) ∙ (ap numbered (sym e) ∙ way-numbered operation.PutType id offered table store)))
-      by-way way.Kept e r = absurd (false≢true (kept-by operation.PutType id offered table store e))
-      by-way (way.Found k) e r = found-suits k e clean r
-      by-way (way.Free k) e r =
-          let o = outcomeBy (way.Free k) operation.PutType id authority place mark offered table store in
-          let h = way-finds operation.PutType id authority place mark offered table store (way.Free k) e tt r (λ q. omega (arith, q)) in
-          subst Suits (sym (held operation.PutType id authority place mark offered table store o h)) (rw (identical-reflexive (layers offered)))
+      by-way : (w : Way) → wayOf act.putType id offered table store ≡ w →
+          let o = outcomeBy w act.putType id authority place mark offered table store in o .answer .refusal ≡ 0 → Suits (typeOf id (o .table) (o .store))
+      by-way (way.refused n p) e r =
+          absurd (false≢true (sym (ap (λ (m : ℕ). not (eqb m 0)) r) ∙ (ap numbered (sym e) ∙ way-numbered act.putType id offered table store)))
+      by-way (way.found k) e r = found-suits k e clean r
+      by-way (way.free k) e r =
+          let o = outcomeBy (way.free k) act.putType id authority place mark offered table store in
+          let h = way-finds act.putType id authority place mark offered table store (way.free k) e tt r (λ q. omega (arith, q)) in
+          subst Suits (sym (held id offered o h)) (rw (identical-reflexive (layers offered)))

@@ -9,14 +9,15 @@ use native.Mathlib.Nat.{not-suc-le-zero}
 use native.Mathlib.Omega.{arith}
 use lib.Dec.{eqb, leb}
 use lib.ListN.{length, take, drop, getD, set, length-drop}
-use lib.Seq.{take-append-le, drop-append-le, take-take, drop-drop, take-add, drop-at, drop-append-add, length-take-le}
-use borrow.Author.Tests.{leb-true, eq-eqb}
+use lib.Seq.{take-append-le, drop-append-le, take-take, drop-drop, take-add, take-at, drop-at, drop-append-add, length-take-le}
+use borrow.Author.Tests.{eq-eqb}
 use Rattle.columns.specs.declared.symbol.Symbol.{Symbol}
 use Rattle.columns.specs.Rows.{vacant, free}
+use Rattle.columns.specs.Stored.{slotWords}
 use Rattle.searches.specs.Search.{firstFree, slotFor}
 use Rattle.orders.specs.Order.{knownStates, allFree, takenFirst, taken, hasId, repeats, passes, allPass}
-use Rattle.checks.specs.Check.{checkOf, isGood}
 use Rattle.layers.proofs.Decide.{both, neither, eqb-sym}
+use Rattle.changes.specs.Changes.{withSlot}
 
 -- "states are 0 to 2"
 pub states-set : (table : List Symbol) (k : ℕ) (s : Symbol) → knownStates table ≡ true → leb (s .state) 2 ≡ true → knownStates (set table k s) ≡ true
@@ -144,26 +145,13 @@ ids-new (x ∷ table) s e h now a b = by-first (free x) refl e h a b (λ f g c d
         (ih f (omega arith) (neither (eqb (x .id) (s .id)) (hasId (s .id) (taken table)) c .1) (neither (hasId (x .id) (taken table)) (repeats (taken table)) d .1))
 
 -- "each typed record's words pass checks 1-3"
--- a record's words are its first 48
-passes-first : (state layers : ℕ) (a b : List ℕ) → take 48 a ≡ take 48 b → passes state layers a ≡ passes state layers b
-unfolding passes
-passes-first state layers a b e = by-count (leb layers 16) refl
-  where
-    by-count : (t : Bool) → leb layers 16 ≡ t →
-        cond (eqb state 1) (cond t (isGood (checkOf (take (layers * 3) a))) false) true ≡ cond (eqb state 1) (cond t (isGood (checkOf (take (layers * 3) b))) false) true
-    by-count false q = refl
-    by-count true q =
-        let few : layers * 3 ≤ 48 = omega (arith, leb-true layers 16 q) in
-        let same = sym (take-take (layers * 3) 48 a few) ∙ ap (take (layers * 3)) e ∙ take-take (layers * 3) 48 b few in
-        ap (λ (ws : List ℕ). cond (eqb state 1) (isGood (checkOf ws)) true) same
-
 pub pass-set : (table : List Symbol) (store : List ℕ) (k : ℕ) (s : Symbol) (ws : List ℕ) → allPass table store ≡ true → k < length table →
-    length store ≡ length table * 48 → passes (s .state) (s .layers) ws ≡ true → drop 48 ws ≡ drop 48 (drop (k * 48) store) →
+    length store ≡ length table * 48 → passes (s .state) (s .layers) (take 48 ws) ≡ true → drop 48 ws ≡ drop 48 (drop (k * 48) store) →
     allPass (set table k s) (take (k * 48) store ++ ws) ≡ true
 unfolding allPass
 pass-set [] store k s ws e h full here rest = absurd (not-suc-le-zero h)
 pass-set (x ∷ table) store zero s ws e h full here rest =
-    rw (here, rest) (both (passes (x .state) (x .layers) store) (allPass table (drop 48 store)) e .1)
+    rw (here, rest) (both (passes (x .state) (x .layers) (take 48 store)) (allPass table (drop 48 store)) e .1)
 pass-set (x ∷ table) store (suc k) s ws e h full here rest =
     let n : suc k * 48 ≡ 48 + k * 48 = omega arith in
     let long : suc k * 48 ≤ length store = omega (arith, full) in
@@ -179,8 +167,8 @@ pass-set (x ∷ table) store (suc k) s ws e h full here rest =
     let tail : drop 48 (take (suc k * 48) store ++ ws) ≡ take (k * 48) (drop 48 store) ++ ws =
     drop-append-le 48 (take (suc k * 48) store) ws within ∙ ap (λ (l : List ℕ). l ++ ws) left in
     let sized : length (drop 48 store) ≡ length table * 48 = simp length-drop (omega (arith, full)) in
-    rw (passes-first (x .state) (x .layers) (take (suc k * 48) store ++ ws) store first, (both (passes (x .state) (x .layers) store) (allPass table (drop 48 store)) e .0), tail)
-    (pass-set table (drop 48 store) k s ws (both (passes (x .state) (x .layers) store) (allPass table (drop 48 store)) e .1) (omega arith) sized here
+    rw (first, (both (passes (x .state) (x .layers) (take 48 store)) (allPass table (drop 48 store)) e .0), tail)
+    (pass-set table (drop 48 store) k s ws (both (passes (x .state) (x .layers) (take 48 store)) (allPass table (drop 48 store)) e .1) (omega arith) sized here
     (rest ∙ ap (drop 48) (ap (λ (m : ℕ). drop m store) n ∙ sym (drop-drop (k * 48) 48 store))))
 
 -- the record that a search finds is taken
@@ -276,3 +264,9 @@ module _ (store ws : List ℕ) (k i : ℕ) (room : k * 48 ≤ length store) (res
       ∙ drop-drop (i * 48 - (k * 48 + 48)) 48 (drop (k * 48) store)
       ∙ drop-drop (48 + (i * 48 - (k * 48 + 48))) (k * 48) store
       ∙ ap (λ (j : ℕ). drop j store) (sym m)
+
+-- the words of a slot that were set
+pub slot-written : (store : List ℕ) (k : ℕ) (ws : List ℕ) → k * 48 ≤ length store → length ws ≡ 48 → slotWords (withSlot store k ws) k ≡ ws
+slot-written store k ws room all =
+    let rest = drop 48 (drop (k * 48) store) in
+    ap (take 48) (drop-at (take (k * 48) store) (ws ++ rest) (k * 48) (length-take-le (k * 48) store room)) ∙ take-at ws rest 48 all

@@ -13,66 +13,76 @@ use Rattle.tables.specs.Gathered.{gathered}
 use Rattle.tables.proofs.Gathering.{swapped}
 use Rattle.orders.proofs.Ordered.{too-long}
 use Rattle.answers.specs.Flat.{notAccepted}
-use Rattle.operations.specs.declared.operation.Operation.{Operation}
+use Rattle.operations.specs.Act.{Act}
+use Rattle.operations.specs.Operation.{Operation, putNothing, acts}
 use Rattle.ways.specs.Ways.{offeredCheck, placeOf, unless, wayOf}
-use Rattle.changes.specs.Changes.{nowhere, outcomeBy, changeBy, changeOf, storeOf}
-use Rattle.ways.specs.declared.slot.Way.{Way}
-use Rattle.ways.specs.declared.slot.Way.the-variants as way
+use Rattle.ways.specs.Way as way
+use Rattle.ways.specs.Way.{Way}
+use Rattle.changes.specs.Changes.{nowhere, outcomeBy, outcome, changeBy, changeOf, storeOf}
 use Rattle.changes.specs.declared.change.Change.{Change}
 use Rattle.lookups.specs.Gets.{got, typeIn, typeOf}
-use Rattle.lookups.specs.declared.get.Got.{Got}
-use Rattle.lookups.specs.declared.get.Got.the-variants as got′
+use Rattle.lookups.specs.Got as got′
+use Rattle.lookups.specs.Got.{Got}
 
-module _ (op : Operation) (id : ℕ) (authority : Bool) (place mark : ℕ) (offered : List ℕ) (table : List Symbol) (store : List ℕ) where
+module _ (id : ℕ) (authority : Bool) (place mark : ℕ) (offered : List ℕ) (table : List Symbol) (store : List ℕ) where
   -- a table that is too long is refused, whatever it holds
-  refuses : paper.Answer ℕ → Change
-  refuses (refused n p) = nowhere (length table) (notAccepted n p)
-  refuses (given n) = nowhere (length table) (notAccepted 12 0)
-  refuses nothing = nowhere (length table) (notAccepted 12 0)
+  refused-by : paper.Answer ℕ → Change
+  refused-by (refused n p) = nowhere (length table) (notAccepted n p)
+  refused-by (given n) = nowhere (length table) (notAccepted 12 0)
+  refused-by nothing = nowhere (length table) (notAccepted 12 0)
 
-  long-way : (l : List Symbol) → 128 < length l → wayOf op id offered l store ≡ unless (offeredCheck op offered) (way.Refused 12 0)
+  refuses : Operation → Change
+  refuses putNothing = nowhere (length table) (notAccepted 12 0)
+  refuses (acts a) = refused-by (offeredCheck a offered)
+
+  long-way : (a : Act) (l : List Symbol) → 128 < length l → wayOf a id offered l store ≡ unless (offeredCheck a offered) (way.refused 12 0)
   unfolding wayOf placeOf
-  long-way l h = rw (too-long l store h)
+  long-way a l h = rw (too-long l store h)
 
-  long-change : (l : List Symbol) → length l ≡ length table → 128 < length l →
-      changeOf op id authority place mark offered l store ≡ refuses (offeredCheck op offered)
-  unfolding changeOf refuses
-  long-change l e h = rw (long-way l h) (by-check (offeredCheck op offered))
+  long-change : (op : Operation) (l : List Symbol) → length l ≡ length table → 128 < length l →
+      changeOf op id authority place mark offered l store ≡ refuses op
+  unfolding changeOf refuses refused-by
+  long-change putNothing l e h = rw (too-long l store h, e)
+  long-change (acts a) l e h = rw (long-way a l h) (by-check (offeredCheck a offered))
     where
-      by-check : (a : paper.Answer ℕ) → changeBy (unless a (way.Refused 12 0)) op id authority place mark offered l store ≡ refuses a
+      by-check : (c : paper.Answer ℕ) → changeBy (unless c (way.refused 12 0)) a id authority place mark offered l store ≡ refused-by c
       by-check (refused n p) = ap (λ (m : ℕ). nowhere m (notAccepted n p)) e
       by-check (given n) = ap (λ (m : ℕ). nowhere m (notAccepted 12 0)) e
       by-check nothing = ap (λ (m : ℕ). nowhere m (notAccepted 12 0)) e
 
-  long-store : (l : List Symbol) → length l ≡ length table → 128 < length l →
+  long-store : (op : Operation) (l : List Symbol) → length l ≡ length table → 128 < length l →
       storeOf op id authority place mark offered l store ≡ store
-  unfolding storeOf
-  long-store l e h =
-      ap (λ (w : Way). outcomeBy w op id authority place mark offered l store .store) (long-way l h) ∙ by-check (offeredCheck op offered)
+  unfolding storeOf outcome
+  long-store putNothing l e h = refl
+  long-store (acts a) l e h =
+      ap (λ (w : Way). outcomeBy w a id authority place mark offered l store .store) (long-way a l h) ∙ by-check (offeredCheck a offered)
     where
-      by-check : (a : paper.Answer ℕ) → outcomeBy (unless a (way.Refused 12 0)) op id authority place mark offered l store .store ≡ store
+      by-check : (c : paper.Answer ℕ) → outcomeBy (unless c (way.refused 12 0)) a id authority place mark offered l store .store ≡ store
       by-check (refused n p) = refl
       by-check (given n) = refl
       by-check nothing = refl
 
-  -- what the core says of the columns, it says of the table
+-- what the core says of the columns, it says of the table
+module _ (op : Operation) (id : ℕ) (authority : Bool) (place mark : ℕ) (offered : List ℕ) (table : List Symbol) (store : List ℕ) where
   pub change-same : changeOf op id authority place mark offered (readFrom (gathered table) 0 (length table)) store
       ≡ changeOf op id authority place mark offered table store
   change-same =
-      swapped table (λ l. changeOf op id authority place mark offered l store) (refuses (offeredCheck op offered)) long-change
+      swapped table (λ l. changeOf op id authority place mark offered l store) (refuses id authority place mark offered table store op)
+      (long-change id authority place mark offered table store op)
 
   pub store-same : storeOf op id authority place mark offered (readFrom (gathered table) 0 (length table)) store
       ≡ storeOf op id authority place mark offered table store
-  store-same = swapped table (λ l. storeOf op id authority place mark offered l store) store long-store
+  store-same =
+      swapped table (λ l. storeOf op id authority place mark offered l store) store (long-store id authority place mark offered table store op)
 
 -- get
 module _ (id : ℕ) (table : List Symbol) (store : List ℕ) where
-  long-got : (authority : Bool) (l : List Symbol) → length l ≡ length table → 128 < length l → got id authority l store ≡ got′.Refused 12 0
+  long-got : (authority : Bool) (l : List Symbol) → length l ≡ length table → 128 < length l → got id authority l store ≡ got′.refused 12 0
   unfolding got
   long-got authority l e h = rw (too-long l store h)
 
   pub got-same : (authority : Bool) → got id authority (readFrom (gathered table) 0 (length table)) store ≡ got id authority table store
-  got-same authority = swapped table (λ l. got id authority l store) (got′.Refused 12 0) (long-got authority)
+  got-same authority = swapped table (λ l. got id authority l store) (got′.refused 12 0) (long-got authority)
 
   long-type : (l : List Symbol) → length l ≡ length table → 128 < length l → typeOf id l store ≡ []
   unfolding typeOf

@@ -4,6 +4,7 @@ use columns::Symbol;
 use operations::Operation;
 use tables::gather;
 ghost use mathlib.Core.Path.{_≡_};
+ghost use Rattle.operations.specs.Operations.{ofOperation};
 ghost use Rattle.changes.specs.Changes as rules;
 
 // Changes a lent table and its store. A type has no mark and poison no offered words: the one that is not asked for is
@@ -18,9 +19,9 @@ pub fn change_symbol(
     mark: u64,
     offered: &[u64],
 ) -> Answer
-    ensures { λ r. ⌜ (r ≡ rules.outcome operation id authority place mark (now (offered .entry)) (now (table .entry)) (now (store .entry)) .answer)
-        × (now (table .exit) ≡ rules.outcome operation id authority place mark (now (offered .entry)) (now (table .entry)) (now (store .entry)) .table)
-        × (now (store .exit) ≡ rules.outcome operation id authority place mark (now (offered .entry)) (now (table .entry)) (now (store .entry)) .store) ⌝ }
+    ensures { λ r. ⌜ (r ≡ rules.outcome (ofOperation operation) id authority place mark (now (offered .entry)) (now (table .entry)) (now (store .entry)) .answer)
+        × (now (table .exit) ≡ rules.outcome (ofOperation operation) id authority place mark (now (offered .entry)) (now (table .entry)) (now (store .entry)) .table)
+        × (now (store .exit) ≡ rules.outcome (ofOperation operation) id authority place mark (now (offered .entry)) (now (table .entry)) (now (store .entry)) .store) ⌝ }
 {
     let mut flat = [0u64; 768];
     gather(table, &mut flat);

@@ -8,6 +8,8 @@ use operations::forward;
 use operations::put;
 ghost use mathlib.Core.Path.{_≡_};
 ghost use mathlib.Core.List.{[]};
+ghost use Rattle.operations.specs.Act as act;
+ghost use Rattle.operations.specs.Operation.{acts};
 ghost use Rattle.operations.specs.Operations as operations;
 ghost use Rattle.changes.specs.Changes as rules;
 
@@ -47,9 +49,9 @@ pub fn poison_symbol(
     place: u64,
     mark: u64,
 ) -> Answer
-    ensures { λ r. ⌜ (r ≡ rules.outcome Operation.PutPoison id authority place mark [] (now (table .entry)) (now (store .entry)) .answer)
-        × (now (table .exit) ≡ rules.outcome Operation.PutPoison id authority place mark [] (now (table .entry)) (now (store .entry)) .table)
-        × (now (store .exit) ≡ rules.outcome Operation.PutPoison id authority place mark [] (now (table .entry)) (now (store .entry)) .store) ⌝ }
+    ensures { λ r. ⌜ (r ≡ rules.outcome (acts act.putPoison) id authority place mark [] (now (table .entry)) (now (store .entry)) .answer)
+        × (now (table .exit) ≡ rules.outcome (acts act.putPoison) id authority place mark [] (now (table .entry)) (now (store .entry)) .table)
+        × (now (store .exit) ≡ rules.outcome (acts act.putPoison) id authority place mark [] (now (table .entry)) (now (store .entry)) .store) ⌝ }
 {
     let none = [0u64; 1];
     change_symbol(

@@ -2,7 +2,6 @@ use answers::Answer;
 use columns::Symbol;
 use operations::Declared;
 use operations::Offer;
-use operations::Operation;
 use symbols::forward_declare_symbol;
 use symbols::get_symbol;
 use symbols::poison_symbol;
@@ -10,6 +9,8 @@ use symbols::put_symbol;
 ghost use mathlib.Core.Path.{_≡_};
 ghost use mathlib.Core.List.{[]};
 ghost use Rattle.lone.specs.Lone as rules;
+ghost use Rattle.operations.specs.Act as act;
+ghost use Rattle.operations.specs.Operation.{putNothing, acts};
 ghost use Rattle.changes.specs.Changes as changes;
 ghost use Rattle.lookups.specs.Gets as gets;
 
@@ -37,9 +38,9 @@ pub extern "C" fn tj_put_nothing(
     authority: bool,
     place: u64,
 ) -> Answer
-    ensures { λ r. ⌜ (r ≡ changes.outcome Operation.PutNothing id authority place 0 [] (now (table .entry)) (now (store .entry)) .answer)
-        × (now (table .exit) ≡ changes.outcome Operation.PutNothing id authority place 0 [] (now (table .entry)) (now (store .entry)) .table)
-        × (now (store .exit) ≡ changes.outcome Operation.PutNothing id authority place 0 [] (now (table .entry)) (now (store .entry)) .store) ⌝ }
+    ensures { λ r. ⌜ (r ≡ changes.outcome putNothing id authority place 0 [] (now (table .entry)) (now (store .entry)) .answer)
+        × (now (table .exit) ≡ changes.outcome putNothing id authority place 0 [] (now (table .entry)) (now (store .entry)) .table)
+        × (now (store .exit) ≡ changes.outcome putNothing id authority place 0 [] (now (table .entry)) (now (store .entry)) .store) ⌝ }
 {
     let none = [0u64; 1];
     put_symbol(
@@ -63,9 +64,9 @@ pub extern "C" fn tj_put_type(
     place: u64,
     offered: &[u64],
 ) -> Answer
-    ensures { λ r. ⌜ (r ≡ changes.outcome Operation.PutType id authority place 0 (now (offered .entry)) (now (table .entry)) (now (store .entry)) .answer)
-        × (now (table .exit) ≡ changes.outcome Operation.PutType id authority place 0 (now (offered .entry)) (now (table .entry)) (now (store .entry)) .table)
-        × (now (store .exit) ≡ changes.outcome Operation.PutType id authority place 0 (now (offered .entry)) (now (table .entry)) (now (store .entry)) .store) ⌝ }
+    ensures { λ r. ⌜ (r ≡ changes.outcome (acts act.putType) id authority place 0 (now (offered .entry)) (now (table .entry)) (now (store .entry)) .answer)
+        × (now (table .exit) ≡ changes.outcome (acts act.putType) id authority place 0 (now (offered .entry)) (now (table .entry)) (now (store .entry)) .table)
+        × (now (store .exit) ≡ changes.outcome (acts act.putType) id authority place 0 (now (offered .entry)) (now (table .entry)) (now (store .entry)) .store) ⌝ }
 {
     put_symbol(table, store, Offer::Type, id, authority, place, 0, offered)
 }
@@ -79,9 +80,9 @@ pub extern "C" fn tj_put_poison(
     place: u64,
     mark: u64,
 ) -> Answer
-    ensures { λ r. ⌜ (r ≡ changes.outcome Operation.PutPoison id authority place mark [] (now (table .entry)) (now (store .entry)) .answer)
-        × (now (table .exit) ≡ changes.outcome Operation.PutPoison id authority place mark [] (now (table .entry)) (now (store .entry)) .table)
-        × (now (store .exit) ≡ changes.outcome Operation.PutPoison id authority place mark [] (now (table .entry)) (now (store .entry)) .store) ⌝ }
+    ensures { λ r. ⌜ (r ≡ changes.outcome (acts act.putPoison) id authority place mark [] (now (table .entry)) (now (store .entry)) .answer)
+        × (now (table .exit) ≡ changes.outcome (acts act.putPoison) id authority place mark [] (now (table .entry)) (now (store .entry)) .table)
+        × (now (store .exit) ≡ changes.outcome (acts act.putPoison) id authority place mark [] (now (table .entry)) (now (store .entry)) .store) ⌝ }
 {
     poison_symbol(table, store, id, authority, place, mark)
 }
@@ -95,9 +96,9 @@ pub extern "C" fn tj_forward_declare_type(
     place: u64,
     offered: &[u64],
 ) -> Answer
-    ensures { λ r. ⌜ (r ≡ changes.outcome Operation.ForwardType id authority place 0 (now (offered .entry)) (now (table .entry)) (now (store .entry)) .answer)
-        × (now (table .exit) ≡ changes.outcome Operation.ForwardType id authority place 0 (now (offered .entry)) (now (table .entry)) (now (store .entry)) .table)
-        × (now (store .exit) ≡ changes.outcome Operation.ForwardType id authority place 0 (now (offered .entry)) (now (table .entry)) (now (store .entry)) .store) ⌝ }
+    ensures { λ r. ⌜ (r ≡ changes.outcome (acts act.forwardType) id authority place 0 (now (offered .entry)) (now (table .entry)) (now (store .entry)) .answer)
+        × (now (table .exit) ≡ changes.outcome (acts act.forwardType) id authority place 0 (now (offered .entry)) (now (table .entry)) (now (store .entry)) .table)
+        × (now (store .exit) ≡ changes.outcome (acts act.forwardType) id authority place 0 (now (offered .entry)) (now (table .entry)) (now (store .entry)) .store) ⌝ }
 {
     forward_declare_symbol(
         table,
@@ -120,9 +121,9 @@ pub extern "C" fn tj_forward_declare_poison(
     place: u64,
     mark: u64,
 ) -> Answer
-    ensures { λ r. ⌜ (r ≡ changes.outcome Operation.ForwardPoison id authority place mark [] (now (table .entry)) (now (store .entry)) .answer)
-        × (now (table .exit) ≡ changes.outcome Operation.ForwardPoison id authority place mark [] (now (table .entry)) (now (store .entry)) .table)
-        × (now (store .exit) ≡ changes.outcome Operation.ForwardPoison id authority place mark [] (now (table .entry)) (now (store .entry)) .store) ⌝ }
+    ensures { λ r. ⌜ (r ≡ changes.outcome (acts act.forwardPoison) id authority place mark [] (now (table .entry)) (now (store .entry)) .answer)
+        × (now (table .exit) ≡ changes.outcome (acts act.forwardPoison) id authority place mark [] (now (table .entry)) (now (store .entry)) .table)
+        × (now (store .exit) ≡ changes.outcome (acts act.forwardPoison) id authority place mark [] (now (table .entry)) (now (store .entry)) .store) ⌝ }
 {
     let none = [0u64; 1];
     forward_declare_symbol(

@@ -7,8 +7,8 @@ use Rattle.buffers.specs.Written.{written}
 use Rattle.columns.specs.declared.symbol.Symbol.{Symbol}
 use Rattle.answers.specs.declared.flat.Answer.{Answer}
 use Rattle.answers.specs.Flat.{accepted, notAccepted}
-use Rattle.rulings.specs.declared.lines.Line.{Line}
-use Rattle.rulings.specs.declared.lines.Line.the-variants as line
+use Rattle.rulings.specs.Line as line
+use Rattle.rulings.specs.Line.{Line}
 use Rattle.updates.specs.Updates.{lineAt, answerBy, typed, recordBy, wordsBy, updated, wordsAfter}
 
 module _ (s : Symbol) (ws : List ℕ) (id : ℕ) (authority : Bool) (place : ℕ) (offered : List ℕ) (P : Symbol → List ℕ → Answer → Type 0)
@@ -16,12 +16,12 @@ module _ (s : Symbol) (ws : List ℕ) (id : ℕ) (authority : Bool) (place : ℕ
     (one : P (typed (s .id) (s .authority) (s .place) offered) (written offered ws) (accepted 1))
     (both : P (typed id authority place offered) (written offered ws) (accepted 2)) (conflict : P s ws (notAccepted 7 0)) where
   by-line : (l : Line) → P (recordBy l s id authority place offered) (wordsBy l offered ws) (answerBy l)
-  by-line line.Poisoned = kept
-  by-line line.IllFormed = ill
-  by-line line.Kept = kept
-  by-line line.TypeReplaced = one
-  by-line line.BothReplaced = both
-  by-line line.Conflicting = conflict
+  by-line line.poisoned = kept
+  by-line line.illFormed = ill
+  by-line line.kept = kept
+  by-line line.typeReplaced = one
+  by-line line.bothReplaced = both
+  by-line line.conflicting = conflict
 
   pub by-lines : P (updated s ws id authority place offered .symbol) (wordsAfter s ws authority offered) (updated s ws id authority place offered .answer)
   unfolding updated wordsAfter

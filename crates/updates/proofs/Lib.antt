@@ -1,5 +1,4 @@
 -- What the proofs of several functions use.
-pub mod Parts
 pub mod Outcomes
 pub mod Cases
 pub mod Theorems

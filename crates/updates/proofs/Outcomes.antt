@@ -7,22 +7,23 @@ use Prim.Native.Nat.{ℕ}
 use lib.Dec.{eqb}
 use Rattle.layers.specs.Layers.{layers}
 use Rattle.columns.specs.declared.symbol.Symbol.{Symbol}
+use Rattle.columns.specs.Stored.{storedWords}
 use Rattle.answers.specs.declared.flat.Answer.{Answer}
-use Rattle.rulings.specs.Rulings.{lineOf}
+use Rattle.rulings.specs.Rulings.{lineOf, ofLine}
 use Rattle.rulings.specs.declared.lines.Line.{Line}
-use Rattle.updates.specs.Updates.{storedOf, lineAt, recordBy, answerBy, wordsBy, updated, wordsAfter}
+use Rattle.updates.specs.Updates.{lineAt, recordBy, answerBy, wordsBy, updated, wordsAfter}
 
 -- l is what the code decided, and k the line that it found this to be
-module _ (s : Symbol) (ws : List ℕ) (authority : Bool) (offered part : List ℕ) (l k : Line) (p : part ≡ storedOf (s .layers) ws)
-    (q : l ≡ lineOf (eqb (s .state) 2) (s .authority) authority (layers part) (layers offered)) (e : l ≡ k) where
-  applies : lineAt s ws authority offered ≡ k
+module _ (s : Symbol) (ws : List ℕ) (authority : Bool) (offered part : List ℕ) (l k : Line) (p : part ≡ storedWords (s .layers) ws)
+    (q : ofLine l ≡ lineOf (eqb (s .state) 2) (s .authority) authority (layers part) (layers offered)) (e : l ≡ k) where
+  applies : lineAt s ws authority offered ≡ ofLine k
   applies = sym (rw (p, e) at q)
 
-  pub answers-by : (id place : ℕ) (a : Answer) (t : Symbol) → t ≡ recordBy k s id authority place offered → a ≡ answerBy k →
+  pub answers-by : (id place : ℕ) (a : Answer) (t : Symbol) → t ≡ recordBy (ofLine k) s id authority place offered → a ≡ answerBy (ofLine k) →
       record { symbol = t; answer = a } ≡ updated s ws id authority place offered
   unfolding updated
   answers-by id place a t i j = rw (applies, i, j)
 
-  pub leaves-by : (after : List ℕ) → after ≡ wordsBy k offered ws → after ≡ wordsAfter s ws authority offered
+  pub leaves-by : (after : List ℕ) → after ≡ wordsBy (ofLine k) offered ws → after ≡ wordsAfter s ws authority offered
   unfolding wordsAfter
   leaves-by after i = rw applies i

@@ -6,8 +6,14 @@ use contract.Lifetimes.{Lfts}
 use denote.Ref.{now}
 use denote.Triple.Clauses.{AtExit}
 use borrow.Fn.Kinds.{Dens, resT, endedOf}
+use Rattle.layers.proofs.Single.{Single}
+use Rattle.updates.proofs.record.typed.Kinds as typed-kinds
+use Rattle.updates.proofs.record.typed.Reads as typed
 use Rattle.updates.proofs.record.update.Kinds as update-kinds
 use Rattle.updates.proofs.record.update.Reads as update
+
+pub typed-single : Single 1 typed-kinds.ps typed-kinds.r typed.Post
+typed-single κs a x y s t p q = p ∙ sym q
 
 pub update-single : (κs : Lfts 2) (a : Dens κs update-kinds.ps) (x y : resT update-kinds.r κs .Denot) (s t : AtExit (endedOf 2 update-kinds.ps update-kinds.r) κs) →
     update.Post κs a x s → update.Post κs a y t → (x ≡ y) × (now (s .1 .0) ≡ now (t .1 .0))

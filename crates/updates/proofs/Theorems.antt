@@ -18,18 +18,19 @@ use Rattle.equalities.proofs.Theorems.{identical-reflexive}
 use Rattle.buffers.specs.Written.{written}
 use Rattle.buffers.proofs.Writing.{fits, length-written}
 use Rattle.columns.specs.declared.symbol.Symbol.{Symbol}
+use Rattle.columns.specs.Stored.{storedWords}
 use Rattle.answers.specs.Flat.{accepted}
 use Rattle.rulings.specs.Rulings.{lineOf}
 use Rattle.rulings.proofs.Known.{Knows, known}
-use Rattle.rulings.specs.declared.lines.Line.{Line}
-use Rattle.rulings.specs.declared.lines.Line.the-variants as line
-use Rattle.updates.specs.Updates.{answerBy, recordBy, wordsBy, storedOf, lineAt, updated, wordsAfter}
+use Rattle.rulings.specs.Line as line
+use Rattle.rulings.specs.Line.{Line}
+use Rattle.updates.specs.Updates.{answerBy, recordBy, wordsBy, lineAt, updated, wordsAfter}
 use Rattle.updates.specs.declared.record.Updated.{Updated}
 
 -- What was written is what is stored.
 pub stored-written : (offered ws : List ℕ) → length offered ≤ length ws → length offered % 3 ≡ 0 →
-    storedOf (length offered / 3) (written offered ws) ≡ offered
-unfolding storedOf
+    storedWords (length offered / 3) (written offered ws) ≡ offered
+unfolding storedWords
 stored-written offered ws h m =
     let n : length offered / 3 * 3 ≡ length offered = omega (arith, m) in
     let k : length offered / 3 ≤ length ws / 3 = omega arith in
@@ -38,13 +39,13 @@ stored-written offered ws h m =
 module _ (s : Symbol) (ws : List ℕ) (id : ℕ) (authority : Bool) (place : ℕ) (offered : List ℕ) where
   -- the stored type before and after
   abbrev stored : List Layer
-  stored = layers (storedOf (s .layers) ws)
+  stored = layers (storedWords (s .layers) ws)
 
   abbrev after : Updated
   after = updated s ws id authority place offered
 
   abbrev then-stored : List Layer
-  then-stored = layers (storedOf (after .symbol .layers) (wordsAfter s ws authority offered))
+  then-stored = layers (storedWords (after .symbol .layers) (wordsAfter s ws authority offered))
 
   abbrev formed : Bool
   formed = wellFormed (layers offered) && wellFormed stored
@@ -53,7 +54,7 @@ module _ (s : Symbol) (ws : List ℕ) (id : ℕ) (authority : Bool) (place : ℕ
   holds t = identical t (layers offered) || concretization t (layers offered)
 
   abbrev by : Line → List Layer
-  by l = layers (storedOf (recordBy l s id authority place offered .layers) (wordsBy l offered ws))
+  by l = layers (storedWords (recordBy l s id authority place offered .layers) (wordsBy l offered ws))
 
   known-at : Knows (eqb (s .state) 2) formed (holds stored) (lineAt s ws authority offered)
   known-at = known (eqb (s .state) 2) (s .authority) authority stored (layers offered)
@@ -71,12 +72,12 @@ module _ (s : Symbol) (ws : List ℕ) (id : ℕ) (authority : Bool) (place : ℕ
     where
       by-line : (l : Line) → (answerBy l .refusal ≡ 0 → answerBy l .value ≡ 0) →
           (recordBy l s id authority place offered ≡ s) × (wordsBy l offered ws ≡ ws)
-      by-line line.Poisoned h = (refl, refl)
-      by-line line.IllFormed h = (refl, refl)
-      by-line line.Kept h = (refl, refl)
-      by-line line.TypeReplaced h = absurd (omega (arith, h refl))
-      by-line line.BothReplaced h = absurd (omega (arith, h refl))
-      by-line line.Conflicting h = (refl, refl)
+      by-line line.poisoned h = (refl, refl)
+      by-line line.illFormed h = (refl, refl)
+      by-line line.kept h = (refl, refl)
+      by-line line.typeReplaced h = absurd (omega (arith, h refl))
+      by-line line.bothReplaced h = absurd (omega (arith, h refl))
+      by-line line.conflicting h = (refl, refl)
 
   module _ (h : length offered ≤ length ws) (m : length offered % 3 ≡ 0) where
     -- No update makes a stored type that is well formed ill formed.
@@ -84,16 +85,16 @@ module _ (s : Symbol) (ws : List ℕ) (id : ℕ) (authority : Bool) (place : ℕ
     unfolding updated wordsAfter
     stays-well-formed e = by-line (lineAt s ws authority offered) known-at
       where
-        replaced : formed ≡ true → wellFormed (layers (storedOf (length offered / 3) (written offered ws))) ≡ true
+        replaced : formed ≡ true → wellFormed (layers (storedWords (length offered / 3) (written offered ws))) ≡ true
         replaced k = rw (stored-written offered ws h m) (both (wellFormed (layers offered)) (wellFormed stored) k .0)
 
         by-line : (l : Line) → Knows (eqb (s .state) 2) formed (holds stored) l → wellFormed (by l) ≡ true
-        by-line line.Poisoned k = e
-        by-line line.IllFormed k = e
-        by-line line.Kept k = e
-        by-line line.TypeReplaced k = replaced k
-        by-line line.BothReplaced k = replaced k
-        by-line line.Conflicting k = e
+        by-line line.poisoned k = e
+        by-line line.illFormed k = e
+        by-line line.kept k = e
+        by-line line.typeReplaced k = replaced k
+        by-line line.bothReplaced k = replaced k
+        by-line line.conflicting k = e
 
     -- After an accepted update of a record that isn't poisoned, the stored type is identical to the offered one or a
     -- concretization of it.
@@ -101,13 +102,13 @@ module _ (s : Symbol) (ws : List ℕ) (id : ℕ) (authority : Bool) (place : ℕ
     unfolding updated wordsAfter
     accepted-holds-offered p = by-line (lineAt s ws authority offered) known-at
       where
-        replaced : holds (layers (storedOf (length offered / 3) (written offered ws))) ≡ true
+        replaced : holds (layers (storedWords (length offered / 3) (written offered ws))) ≡ true
         replaced = rw (stored-written offered ws h m, identical-reflexive (layers offered))
 
         by-line : (l : Line) → Knows (eqb (s .state) 2) formed (holds stored) l → answerBy l .refusal ≡ 0 → holds (by l) ≡ true
-        by-line line.Poisoned k e = absurd (p (eqb-true (s .state) 2 k))
-        by-line line.IllFormed k e = absurd (omega (arith, e))
-        by-line line.Kept k e = k
-        by-line line.TypeReplaced k e = replaced
-        by-line line.BothReplaced k e = replaced
-        by-line line.Conflicting k e = absurd (omega (arith, e))
+        by-line line.poisoned k e = absurd (p (eqb-true (s .state) 2 k))
+        by-line line.illFormed k e = absurd (omega (arith, e))
+        by-line line.kept k e = k
+        by-line line.typeReplaced k e = replaced
+        by-line line.bothReplaced k e = replaced
+        by-line line.conflicting k e = absurd (omega (arith, e))

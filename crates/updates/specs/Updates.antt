@@ -1,28 +1,29 @@
 -- "An update changes the lent symbol itself, by the first line that applies": what that line does.
-use mathlib.Core.Bool.{Bool, cond}
-use mathlib.Core.List.{List, []}
-use Prim.Native.Nat.{ℕ, _*_, _/_}
-use lib.Dec.{eqb, ltb}
-use lib.ListN.{length, take}
+use mathlib.Core.Bool.{Bool}
+use mathlib.Core.List.{List}
+use Prim.Native.Nat.{ℕ, _/_}
+use lib.Dec.{eqb}
+use lib.ListN.{length}
 use Rattle.layers.specs.Layers.{layers}
 use Rattle.buffers.specs.Written.{written}
 use Rattle.columns.specs.declared.symbol.Symbol.{Symbol}
+use Rattle.columns.specs.Stored.{storedWords}
 use Rattle.answers.specs.declared.flat.Answer.{Answer}
 use Rattle.answers.specs.Flat.{accepted, notAccepted}
 use Rattle.rulings.specs.Rulings.{lineOf}
-use Rattle.rulings.specs.declared.lines.Line.{Line}
-use Rattle.rulings.specs.declared.lines.Line.the-variants as line
+use Rattle.rulings.specs.Line as line
+use Rattle.rulings.specs.Line.{Line}
 use Rattle.updates.specs.declared.record.Updated.{Updated}
 
 -- Accepted: 0 where nothing changes, 1 where the type is replaced, 2 where both are. "Every refusal returns its number and
 -- a place (0 unless named)".
 abbrev pub answerBy : Line → Answer
-answerBy line.Poisoned = accepted 0
-answerBy line.IllFormed = notAccepted 4 0
-answerBy line.Kept = accepted 0
-answerBy line.TypeReplaced = accepted 1
-answerBy line.BothReplaced = accepted 2
-answerBy line.Conflicting = notAccepted 7 0
+answerBy line.poisoned = accepted 0
+answerBy line.illFormed = notAccepted 4 0
+answerBy line.kept = accepted 0
+answerBy line.typeReplaced = accepted 1
+answerBy line.bothReplaced = accepted 2
+answerBy line.conflicting = notAccepted 7 0
 
 -- A record of a type that was written, under an identifier: "writing a type sets the mark to 0".
 abbrev pub typed : ℕ → Bool → ℕ → List ℕ → Symbol
@@ -30,30 +31,26 @@ typed id authority place ws =
     record { id = id; authority = authority; place = place; state = 1; layers = length ws / 3; mark = 0 }
 
 abbrev pub recordBy : Line → Symbol → ℕ → Bool → ℕ → List ℕ → Symbol
-recordBy line.Poisoned s id authority place offered = s
-recordBy line.IllFormed s id authority place offered = s
-recordBy line.Kept s id authority place offered = s
-recordBy line.TypeReplaced s id authority place offered = typed (s .id) (s .authority) (s .place) offered
-recordBy line.BothReplaced s id authority place offered = typed id authority place offered
-recordBy line.Conflicting s id authority place offered = s
+recordBy line.poisoned s id authority place offered = s
+recordBy line.illFormed s id authority place offered = s
+recordBy line.kept s id authority place offered = s
+recordBy line.typeReplaced s id authority place offered = typed (s .id) (s .authority) (s .place) offered
+recordBy line.bothReplaced s id authority place offered = typed id authority place offered
+recordBy line.conflicting s id authority place offered = s
 
 -- "Writing a type touches that part's first words only."
 abbrev pub wordsBy : Line → List ℕ → List ℕ → List ℕ
-wordsBy line.Poisoned offered ws = ws
-wordsBy line.IllFormed offered ws = ws
-wordsBy line.Kept offered ws = ws
-wordsBy line.TypeReplaced offered ws = written offered ws
-wordsBy line.BothReplaced offered ws = written offered ws
-wordsBy line.Conflicting offered ws = ws
-
--- The words of the stored type: the first three for each layer. No words where they are not there.
-unfoldable pub storedOf : ℕ → List ℕ → List ℕ
-storedOf n ws = cond (ltb (length ws / 3) n) [] (take (n * 3) ws)
+wordsBy line.poisoned offered ws = ws
+wordsBy line.illFormed offered ws = ws
+wordsBy line.kept offered ws = ws
+wordsBy line.typeReplaced offered ws = written offered ws
+wordsBy line.bothReplaced offered ws = written offered ws
+wordsBy line.conflicting offered ws = ws
 
 -- The line that applies to a record, its words, the new identifier's authority and the offered words. "2 poisoned"
 abbrev pub lineAt : Symbol → List ℕ → Bool → List ℕ → Line
 lineAt s ws authority offered =
-    lineOf (eqb (s .state) 2) (s .authority) authority (layers (storedOf (s .layers) ws)) (layers offered)
+    lineOf (eqb (s .state) 2) (s .authority) authority (layers (storedWords (s .layers) ws)) (layers offered)
 
 unfoldable pub updated : Symbol → List ℕ → ℕ → Bool → ℕ → List ℕ → Updated
 updated s ws id authority place offered =

@@ -2,4 +2,5 @@
 mod record;
 
 pub use record::Updated;
+pub use record::typed;
 pub use record::update;

@@ -3,6 +3,7 @@ use answers::accepted;
 use answers::refused;
 use buffers::write_words;
 use columns::Symbol;
+use columns::stored_words;
 use rulings::Line;
 use rulings::decide;
 ghost use mathlib.Core.Path.{_≡_};
@@ -14,18 +15,8 @@ pub struct Updated {
     pub answer: Answer,
 }
 
-// The words of the stored type; no words where they are not there.
-fn stored(words: &[u64], layers: u64) -> &[u64]
-    ensures { λ r. ⌜ now r ≡ rules.storedOf layers (now (words .entry)) ⌝ }
-{
-    if layers > (words.len() / 3) as u64 {
-        return &words[..0];
-    }
-    &words[..layers as usize * 3]
-}
-
 // A record of a type that was written.
-fn typed(id: u32, authority: bool, place: u64, offered: &[u64]) -> Symbol
+pub fn typed(id: u32, authority: bool, place: u64, offered: &[u64]) -> Symbol
     ensures { λ r. ⌜ r ≡ rules.typed id authority place (now (offered .entry)) ⌝ }
 {
     Symbol {
@@ -54,7 +45,7 @@ pub fn update(
         s.state == 2,
         s.authority,
         authority,
-        stored(words, s.layers),
+        stored_words(words, s.layers),
         offered,
     );
     match line {

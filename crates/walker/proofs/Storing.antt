@@ -1,44 +1,26 @@
 -- What a table has stored under an id.
 -- Assumes nothing.
 use mathlib.Core.Path.{_≡_, refl, sym, ap, _∙_}
-use mathlib.Core.Bool.{Bool, true, false, cond, false≢true}
-use mathlib.Core.List.{List, [], _∷_}
-use Prim.Native.Nat.{ℕ, zero, suc, _+_, _*_, _-_, _/_, _≤_, _<_}
+use mathlib.Core.Bool.{Bool, true, false, cond}
+use mathlib.Core.List.{List, []}
+use Prim.Native.Nat.{ℕ, _+_, _≤_, _<_}
 use native.Mathlib.Nat.{zero-add}
 use native.Mathlib.Omega.{arith}
-use lib.Dec.{leb}
-use lib.ListN.{length, take, drop, getD, drop-of-length-le, List·getD-eq-default}
-use lib.Seq.{take-all, take-nil, length-take-le, drop-drop}
+use lib.ListN.{length, take, getD, List·getD-eq-default}
 use borrow.Author.Tests.{lt-ltb, le-ltb, eq-eqb, ne-eqb}
 use Rattle.layers.specs.Layers.{Whole}
-use Rattle.layers.proofs.Decide.{yes, both}
-use Rattle.layers.proofs.Words.{part, part-is}
+use Rattle.layers.proofs.Decide.{yes}
 use Rattle.checks.specs.Check.{checkOf, isGood}
 use Rattle.checks.proofs.Accepted.{good-whole}
 use Rattle.columns.specs.Rows.{vacant, rowAt, readFrom, typed}
+use Rattle.columns.specs.Stored.{slotWords, storedWords}
 use Rattle.searches.specs.Search.{slotIn, slotFor}
-use Rattle.orders.specs.Order.{passes, allPass, inOrder}
+use Rattle.orders.specs.Order.{passes, inOrder}
 use Rattle.columns.specs.declared.symbol.Symbol.{Symbol}
 use Rattle.columns.proofs.Reading.{getD-read, length-read}
 use Rattle.searches.proofs.Searching.{slot-is}
-use Rattle.orders.proofs.Ordered.{ordered}
+use Rattle.orders.proofs.Ordered.{ordered, pass-at}
 use Rattle.walker.specs.Members.{wordsAt, memberWords, memberIn, askedIn}
-
-module _ (ws : List ℕ) (at n : ℕ) where
-  pub past-end : length ws < at → take 0 ws ≡ take (n * 3) (drop at ws)
-  past-end h = let e : length ws ≤ at = omega arith in rw (drop-of-length-le ws e) (sym (take-nil (n * 3)))
-
-  pub all-left : at ≤ length ws → length (part ws at) / 3 < n → part ws at ≡ take (n * 3) (drop at ws)
-  all-left h f =
-      let e = part-is ws at in
-      let l : length (drop at ws) ≤ n * 3 = omega (arith, f, ap length e) in
-      e ∙ sym (take-all (n * 3) (drop at ws) l)
-
-  pub some-left : at ≤ length ws → take (n * 3) (part ws at) ≡ take (n * 3) (drop at ws)
-  some-left h = rw (part-is ws at)
-
-pub in-part : (ws : List ℕ) (n : ℕ) → n ≤ length ws / 3 → n * 3 ≡ length (take (n * 3) ws)
-in-part ws n h = sym (length-take-le (n * 3) ws (omega arith))
 
 -- the record that is found
 module _ (ws store : List ℕ) (n id : ℕ) where
@@ -51,7 +33,7 @@ module _ (ws store : List ℕ) (n id : ℕ) where
   at-most h = rw (le-ltb 128 n h)
 
   module _ (h : n ≤ 128) (k : ℕ) (q : k ≡ slotIn ws n id) where
-    few : memberIn ws n store id ≡ wordsAt (getD (readFrom ws 0 n) k vacant) (drop (k * 48) store)
+    few : memberIn ws n store id ≡ wordsAt (getD (readFrom ws 0 n) k vacant) (slotWords store k)
     unfolding memberIn memberWords
     few = rw (le-ltb 128 n h, ← slot-is ws n id k h q)
 
@@ -61,16 +43,17 @@ module _ (ws store : List ℕ) (n id : ℕ) where
         sym (few ∙ rw (List·getD-eq-default (readFrom ws 0 n) vacant past))
 
     module _ (e : k < n) where
-      here : memberIn ws n store id ≡ wordsAt (rowAt ws k) (drop (k * 48) store)
-      here = few ∙ ap (λ (s : Symbol). wordsAt s (drop (k * 48) store)) (getD-read ws 0 n k e ∙ ap (rowAt ws) (zero-add k))
+      here : memberIn ws n store id ≡ wordsAt (rowAt ws k) (slotWords store k)
+      here = few ∙ ap (λ (s : Symbol). wordsAt s (slotWords store k)) (getD-read ws 0 n k e ∙ ap (rowAt ws) (zero-add k))
 
       pub not-typed : (getD ws (k + 384) 0 ≡ 1 → ⊥) → take 0 store ≡ memberIn ws n store id
       unfolding rowAt
       not-typed f = sym (here ∙ rw (ne-eqb (getD ws (k + 384) 0) 1 f))
 
-      pub is-typed : (r : List ℕ) → getD ws (k + 384) 0 ≡ 1 → r ≡ take (getD ws (k + 512) 0 * 3) (drop (k * 48) store) → r ≡ memberIn ws n store id
+      pub is-typed : (slot r : List ℕ) → getD ws (k + 384) 0 ≡ 1 → slot ≡ slotWords store k → r ≡ storedWords (getD ws (k + 512) 0) slot →
+          r ≡ memberIn ws n store id
       unfolding rowAt
-      is-typed r f g = g ∙ sym (here ∙ rw (eq-eqb (getD ws (k + 384) 0) 1 f))
+      is-typed slot r f p g = g ∙ ap (storedWords (getD ws (k + 512) 0)) p ∙ sym (here ∙ rw (eq-eqb (getD ws (k + 384) 0) 1 f))
 
 -- the member's words, by the step's kind
 module _ (ws store : List ℕ) (n s id : ℕ) where
@@ -82,32 +65,22 @@ module _ (ws store : List ℕ) (n s id : ℕ) where
   unfolding askedIn
   not-asked e = rw (ne-eqb s 1 e)
 
--- a typed record's words pass
-pass-at : (table : List Symbol) (store : List ℕ) (k : ℕ) → allPass table store ≡ true →
-    passes (getD table k vacant .state) (getD table k vacant .layers) (drop (k * 48) store) ≡ true
-unfolding allPass passes
-pass-at [] store k e = refl
-pass-at (s ∷ table) store zero e = both (passes (s .state) (s .layers) store) (allPass table (drop 48 store)) e .0
-pass-at (s ∷ table) store (suc k) e =
-    let m : suc k * 48 ≡ 48 + k * 48 = omega arith in
-    rw (m, ← drop-drop (k * 48) 48 store) (pass-at table (drop 48 store) k (both (passes (s .state) (s .layers) store) (allPass table (drop 48 store)) e .1))
-
 -- what is stored in a table that is in order
-pub member-whole : (table : List Symbol) (store : List ℕ) (id : ℕ) → inOrder table store ≡ true → Whole (memberWords table store id)
-unfolding memberWords passes
-member-whole table store id e = by-state (typed s) refl (pass-at table store k (ordered table store e .pass))
-  where
-    k : ℕ
-    k = slotFor id table
+module _ (table : List Symbol) (store : List ℕ) (id : ℕ) (o : inOrder table store ≡ true) where
+  abbrev at : Symbol
+  at = getD table (slotFor id table) vacant
 
-    s : Symbol
-    s = getD table k vacant
+  abbrev its : List ℕ
+  its = storedWords (at .layers) (slotWords store (slotFor id table))
 
-    by-layers : (f : Bool) → cond f (isGood (checkOf (take (s .layers * 3) (drop (k * 48) store)))) false ≡ true → Whole (take (s .layers * 3) (drop (k * 48) store))
-    by-layers true p = good-whole (take (s .layers * 3) (drop (k * 48) store)) p
-    by-layers false p = absurd (false≢true p)
+  pub stored-good : typed at ≡ true → isGood (checkOf its) ≡ true
+  unfolding passes
+  stored-good e = rw e at (pass-at table store (slotFor id table) (ordered table store o .pass))
 
-    by-state : (f : Bool) → typed s ≡ f → cond f (cond (leb (s .layers) 16) (isGood (checkOf (take (s .layers * 3) (drop (k * 48) store)))) false) true ≡ true →
-        Whole (cond f (take (s .layers * 3) (drop (k * 48) store)) [])
-    by-state true p q = by-layers (leb (s .layers) 16) q
-    by-state false p q = record { whole = refl; few = omega arith }
+  pub member-whole : Whole (memberWords table store id)
+  unfolding memberWords
+  member-whole = by-state (typed at) refl
+    where
+      by-state : (f : Bool) → typed at ≡ f → Whole (cond f its [])
+      by-state true e = good-whole its (stored-good e)
+      by-state false e = record { whole = refl; few = omega arith }

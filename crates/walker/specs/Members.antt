@@ -1,24 +1,25 @@
 -- "Member from Struct or Word to the table's type": what a table has of a member. "A member is found by its id alone".
 use mathlib.Core.Bool.{cond}
 use mathlib.Core.List.{List, [], _∷_}
-use Prim.Native.Nat.{ℕ, _*_}
+use Prim.Native.Nat.{ℕ}
 use lib.Dec.{eqb, ltb}
-use lib.ListN.{take, drop, getD}
+use lib.ListN.{getD}
 use Rattle.layers.specs.Layers.{Layer, layers}
 use Rattle.columns.specs.declared.symbol.Symbol.{Symbol}
 use Rattle.columns.specs.Rows.{vacant, readFrom, typed}
+use Rattle.columns.specs.Stored.{slotWords, storedWords}
 use Rattle.searches.specs.Search.{slotFor}
 use Rattle.steps.specs.StepKind as of-step
 use Rattle.walker.specs.Walker as walker
 use Rattle.walker.specs.Walker.{Stored}
 
--- The words of the record's type, which stand first in its part of the store; a poisoned record has none.
+-- The words of the record's type, which stand first in its slot; a poisoned record has none.
 abbrev pub wordsAt : Symbol → List ℕ → List ℕ
-wordsAt s ws = cond (typed s) (take (s .layers * 3) ws) []
+wordsAt s ws = cond (typed s) (storedWords (s .layers) ws) []
 
 -- The words of the type that is stored under an id; none where it is absent or poisoned.
 unfoldable pub memberWords : List Symbol → List ℕ → ℕ → List ℕ
-memberWords table store id = wordsAt (getD table (slotFor id table) vacant) (drop (slotFor id table * 48) store)
+memberWords table store id = wordsAt (getD table (slotFor id table) vacant) (slotWords store (slotFor id table))
 
 -- The same of columns: of more than 128 rows, none.
 unfoldable pub memberIn : List ℕ → ℕ → List ℕ → ℕ → List ℕ

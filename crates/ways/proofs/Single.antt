@@ -1,9 +1,24 @@
 -- The public contract allows one result: any two that it allows of the same arguments coincide.
 -- Assumes nothing.
-use mathlib.Core.Path.{sym, _∙_}
+use mathlib.Core.Path.{_≡_, refl, sym, ap, _∙_}
 use Rattle.layers.proofs.Single.{Single}
+use Rattle.ways.specs.Way as way
+use Rattle.ways.specs.Ways.{ofWay}
+use Rattle.ways.specs.declared.slot.Way.{Way}
+use Rattle.ways.specs.declared.slot.Way.the-variants as code
 use Rattle.ways.proofs.slot.way_of.Kinds.{ps, r}
 use Rattle.ways.proofs.slot.way_of.Reads.{Post}
 
+-- the code's way that a way comes from
+abbrev coded : way.Way → Way
+coded (way.refused n p) = code.Refused n p
+coded (way.found k) = code.Found k
+coded (way.free k) = code.Free k
+
+is-coded : (w : Way) → w ≡ coded (ofWay w)
+is-coded (code.Refused n p) = refl
+is-coded (code.Found k) = refl
+is-coded (code.Free k) = refl
+
 pub way-of-single : Single 3 ps r Post
-way-of-single κs a x y s t p q = p ∙ sym q
+way-of-single κs a x y s t p q = is-coded x ∙ ap coded (p ∙ sym q) ∙ sym (is-coded y)

@@ -1,4 +1,4 @@
-// Which record of a table an operation is about.
+// Which record of a table an act is about.
 mod slot;
 
 pub use slot::Way;

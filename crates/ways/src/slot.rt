@@ -1,7 +1,6 @@
 use layers::Checked;
-use operations::Operation;
+use operations::Act;
 use operations::offers_type;
-use operations::puts_nothing;
 use orders::in_order;
 use refusals::check_type;
 use searches::first_free;
@@ -9,38 +8,35 @@ use searches::slot_of;
 ghost use mathlib.Core.Path.{_≡_};
 ghost use Rattle.layers.specs.Answer.{ofChecked};
 ghost use Rattle.columns.specs.Rows.{readFrom};
+ghost use Rattle.operations.specs.Operations.{ofAct};
 ghost use Rattle.ways.specs.Ways as rules;
 
-// The record that an operation is about: none, where everything is kept; the one that has the id; or the first free one.
+// The record that an act is about: the one that has the id, or the first free one.
 pub enum Way {
     Refused { number: u64, place: u64 },
-    Kept,
     Found(usize),
     Free(usize),
 }
 
 // The checks of the offered type, where there is one.
-fn check_offered(operation: Operation, offered: &[u64]) -> Checked
-    ensures { λ r. ⌜ ofChecked r ≡ rules.offeredCheck operation (now (offered .entry)) ⌝ }
+fn check_offered(act: Act, offered: &[u64]) -> Checked
+    ensures { λ r. ⌜ ofChecked r ≡ rules.offeredCheck (ofAct act) (now (offered .entry)) ⌝ }
 {
-    if offers_type(operation) {
+    if offers_type(act) {
         check_type(offered)
     } else {
         Checked::Good(0)
     }
 }
 
-fn slot_for(operation: Operation, flat: &[u64; 768], n: usize, store: &[u64], id: u32) -> Way
-    ensures { λ r. ⌜ r ≡ rules.placeOf operation id (readFrom (now (flat .entry)) 0 n) (now (store .entry)) ⌝ }
+fn slot_for(flat: &[u64; 768], n: usize, store: &[u64], id: u32) -> Way
+    ensures { λ r. ⌜ rules.ofWay r ≡ rules.placeOf id (readFrom (now (flat .entry)) 0 n) (now (store .entry)) ⌝ }
 {
     if !in_order(flat, n, store) {
         return Way::Refused {
             number: 12,
             place: 0,
         };
-    }
-    if puts_nothing(operation) {
-        return Way::Kept;
     }
     let at = slot_of(flat, n, id);
     if at < n {
@@ -57,18 +53,11 @@ fn slot_for(operation: Operation, flat: &[u64; 768], n: usize, store: &[u64], id
 }
 
 // The refusals of the offered type come before those of the table.
-pub fn way_of(
-    operation: Operation,
-    flat: &[u64; 768],
-    n: usize,
-    store: &[u64],
-    id: u32,
-    offered: &[u64],
-) -> Way
-    ensures { λ r. ⌜ r ≡ rules.wayOf operation id (now (offered .entry)) (readFrom (now (flat .entry)) 0 n) (now (store .entry)) ⌝ }
+pub fn way_of(act: Act, flat: &[u64; 768], n: usize, store: &[u64], id: u32, offered: &[u64]) -> Way
+    ensures { λ r. ⌜ rules.ofWay r ≡ rules.wayOf (ofAct act) id (now (offered .entry)) (readFrom (now (flat .entry)) 0 n) (now (store .entry)) ⌝ }
 {
-    match check_offered(operation, offered) {
+    match check_offered(act, offered) {
         Checked::Refused { number, place } => Way::Refused { number, place },
-        Checked::Good(_) => slot_for(operation, flat, n, store, id),
+        Checked::Good(_) => slot_for(flat, n, store, id),
     }
 }

@@ -1,5 +1,5 @@
 use borrow.Author.Needs.{needs}
-use Rattle.changes.proofs.Decided.{chose-refused, kept-refused, chose-kept, kept-all, found-fits, found-bytes, found-part, chose-found, kept-found, new-fits, new-bytes, new-part, chose-new, kept-new}
+use Rattle.changes.proofs.Decided.{nothing-changes, nothing-stored, change-by, store-after}
 use Rattle.changes.proofs.change.choose.Statement.{statement}
 use Rattle.changes.proofs.change.choose.Tie as tie
 
@@ -10,32 +10,9 @@ choose-spec =
     (λ c κs. search needs)
     (λ c. search needs)
     (λ c κs. search needs)
-    (λ c κs. search needs)
     (λ c. search needs)
     (λ c κs. search needs)
-    (λ c κs. search needs)
     (λ c. search needs)
-    (λ c. search found-fits)
-    (λ c κs. search needs)
-    (λ c. search found-bytes)
-    (λ c. search found-part)
-    (λ c. search found-part)
+    (λ c. (search nothing-changes, search nothing-stored))
     (λ c. search needs)
-    (λ c κs. search needs)
-    (λ c κs. search needs)
-    (λ c. search needs)
-    (λ c. search new-fits)
-    (λ c. search new-bytes)
-    (λ c. search new-part)
-    (λ c. search new-part)
-    (λ c. search needs)
-    (λ c κs. search needs)
-    (λ c κs. search needs)
-    (λ c. search needs)
-    (λ c. (search chose-refused, search kept-refused))
-    (λ c. search needs)
-    (λ c. (search chose-kept, search kept-all))
-    (λ c. search needs)
-    (λ c. (search chose-found, search kept-found))
-    (λ c. search needs)
-    (λ c. (search chose-new, search kept-new)))
+    (λ c. (search change-by, search store-after)))

@@ -1,5 +1,5 @@
 use borrow.Author.Needs.{needs}
-use Rattle.lone.proofs.Alone.{miscounted, poisoned-fits, not-taken, too-many, in-words, typed-fits}
+use Rattle.lone.proofs.Alone.{miscounted, poisoned-fits, not-taken, typed-fits}
 use Rattle.lone.proofs.lent.in_order.Statement.{statement}
 use Rattle.lone.proofs.lent.in_order.Tie as tie
 
@@ -10,8 +10,6 @@ in-order-spec =
     (λ c. search miscounted)
     (λ c. search poisoned-fits)
     (λ c. search not-taken)
-    (λ c. search too-many)
-    (λ c. search needs)
-    (λ c. search in-words)
+    (λ c κs. search needs)
     (λ c κs. search needs)
     (λ c. search typed-fits))

@@ -9,8 +9,6 @@ overwrite-spec =
     (tie.spec
     (λ c. search needs)
     (λ c κs. search needs)
-    (λ c. search needs)
-    (λ c κs. search needs)
     (λ c κs. search needs)
     (λ c. search needs)
     (λ c κs. search needs)
@@ -21,7 +19,6 @@ overwrite-spec =
     (λ c κs. search needs)
     (λ c κs. search needs)
     (λ c κs. search needs)
-    (λ c. (search overwrites-as, search overwrites-words))
     (λ c. (search overwrites-as, search overwrites-words))
     (λ c. search needs)
     (λ c. (search overwrites-by, search overwrites-words))

@@ -63,6 +63,7 @@ use Rattle.answers.proofs.flat.Answer as B
 use Rattle.answers.proofs.flat.Answer.Laws as B′
 use Rattle.changes.specs.Changes.{outcome, changeOf, storeOf}
 use Rattle.operations.specs.declared.operation.Operation.{Operation}
+use Rattle.operations.specs.Operations.{ofOperation}
 use Rattle.changes.specs.declared.change.Change.{Change}
 use Rattle.changes.proofs.Outcomes.{answer-is, store-is, table-kept, table-set}
 use Rattle.symbols.proofs.Whole.{change-same, store-same}
@@ -157,19 +158,19 @@ module _ {M : Type 1} (𝓤 : URA M) (H : Heap 𝓤) (A : Atoms 𝓤) (W : Given
 
   -- what the core says of a list of records, and what the function does
   abbrev Said : List Symbol → Change → List ℕ → Type 0
-  Said l r zs = (r ≡ changeOf op d t p m (x₂ .now) l (x₁ .now)) × (zs ≡ storeOf op d t p m (x₂ .now) l (x₁ .now))
+  Said l r zs = (r ≡ changeOf (ofOperation op) d t p m (x₂ .now) l (x₁ .now)) × (zs ≡ storeOf (ofOperation op) d t p m (x₂ .now) l (x₁ .now))
 
   abbrev Says : Answer → List Symbol → List ℕ → Type 0
-  Says r zs₀ zs = (r ≡ outcome op d t p m (x₂ .now) ys (x₁ .now) .answer) × (zs₀ ≡ outcome op d t p m (x₂ .now) ys (x₁ .now) .table) × (zs ≡ outcome op d t p m (x₂ .now) ys (x₁ .now) .store)
+  Says r zs₀ zs = (r ≡ outcome (ofOperation op) d t p m (x₂ .now) ys (x₁ .now) .answer) × (zs₀ ≡ outcome (ofOperation op) d t p m (x₂ .now) ys (x₁ .now) .table) × (zs ≡ outcome (ofOperation op) d t p m (x₂ .now) ys (x₁ .now) .store)
 
   on-table : (r : Change) (zs : List ℕ) → Said (readFrom (gathered ys) 0 n) r zs → Said ys r zs
-  on-table r zs h = (h .0 ∙ change-same op d t p m (x₂ .now) ys (x₁ .now), h .1 ∙ store-same op d t p m (x₂ .now) ys (x₁ .now))
+  on-table r zs h = (h .0 ∙ change-same (ofOperation op) d t p m (x₂ .now) ys (x₁ .now), h .1 ∙ store-same (ofOperation op) d t p m (x₂ .now) ys (x₁ .now))
 
   kept-says : (r : Change) (zs : List ℕ) → Said ys r zs → T (leb n (r .slot)) → Says (r .answer) ys zs
-  kept-says r zs h out = (answer-is op d t p m (x₂ .now) ys (x₁ .now) r (h .0), table-kept op d t p m (x₂ .now) ys (x₁ .now) r (h .0) out, h .1 ∙ store-is op d t p m (x₂ .now) ys (x₁ .now))
+  kept-says r zs h out = (answer-is (ofOperation op) d t p m (x₂ .now) ys (x₁ .now) r (h .0), table-kept (ofOperation op) d t p m (x₂ .now) ys (x₁ .now) r (h .0) out, h .1 ∙ store-is (ofOperation op) d t p m (x₂ .now) ys (x₁ .now))
 
   stored-says : (r : Change) (zs : List ℕ) → Said ys r zs → T (not (leb n (r .slot))) → Says (r .answer) (set ys (r .slot) (r .symbol)) zs
-  stored-says r zs h inside = (answer-is op d t p m (x₂ .now) ys (x₁ .now) r (h .0), table-set op d t p m (x₂ .now) ys (x₁ .now) r (h .0) inside, h .1 ∙ store-is op d t p m (x₂ .now) ys (x₁ .now))
+  stored-says r zs h inside = (answer-is (ofOperation op) d t p m (x₂ .now) ys (x₁ .now) r (h .0), table-set (ofOperation op) d t p m (x₂ .now) ys (x₁ .now) r (h .0) inside, h .1 ∙ store-is (ofOperation op) d t p m (x₂ .now) ys (x₁ .now))
 
   exits : (r : Answer) (zs₀ : List Symbol) (zs : List ℕ) → Is B.the-row r (B′.lowered r ∷ []) → Says r zs₀ zs → length zs₀ ≡ n → length zs ≡ length (x₁ .now)
       → ent 𝓤 (⋆ 𝓤 H A (TT ∷ ‵ (Own₀ zs₀) ∷ ‵ (finally u64 (x₁ .name) zs) ∷ ‵ Own₂ ∷ [])) (Post (B′.lowered r))

@@ -50,7 +50,7 @@ use Rattle.tables.proofs.gather.Met as gather-thm
 use Rattle.answers.specs.declared.flat.Answer.{Answer}
 use Rattle.answers.proofs.flat.Answer as B
 use Rattle.answers.proofs.flat.Answer.Laws as B′
-use Rattle.lookups.specs.declared.get.Got.{Got}
+use Rattle.lookups.specs.Got.{Got}
 use Rattle.lookups.specs.Gets.{got, told, foundAfter}
 use Rattle.symbols.proofs.Whole.{got-same}
 use Rattle.lookups.proofs.get_among as core

@@ -17,7 +17,7 @@ member-spec =
     (λ c. search needs)
     (λ c. search needs)
     (λ c. search not-typed)
-    (λ c. search needs)
+    (λ c κs. search needs)
     (λ c. search needs)
     (λ c. search needs)
     (λ c. search needs)

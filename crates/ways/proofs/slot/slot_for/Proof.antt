@@ -1,5 +1,5 @@
 use borrow.Author.Needs.{needs}
-use Rattle.ways.proofs.Decided.{out-of-order, nothing-put, found-there, room-there, none-free}
+use Rattle.ways.proofs.Decided.{out-of-order, found-there, room-there, none-free}
 use Rattle.ways.proofs.slot.slot_for.Statement.{statement}
 use Rattle.ways.proofs.slot.slot_for.Tie as tie
 
@@ -9,8 +9,6 @@ slot-for-spec =
     (tie.spec
     (λ c κs. search needs)
     (λ c. search out-of-order)
-    (λ c κs. search needs)
-    (λ c. search nothing-put)
     (λ c κs. search needs)
     (λ c. search found-there)
     (λ c κs. search needs)
