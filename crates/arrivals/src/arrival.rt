@@ -1,11 +1,15 @@
 use answers::Answer;
 use answers::checked;
-use kinds::Kind;
+use builders::Layer;
+use builders::two_layers;
 use layers::inner;
 use outputs::write_type;
 ghost use mathlib.Core.Path.{_≡_};
 ghost use mathlib.Core.Bool.{cond};
+ghost use mathlib.Core.List.{[], _∷_};
 ghost use lib.ListN.{drop};
+ghost use Rattle.kinds.specs.Kind as kind;
+ghost use Rattle.layers.specs.Layers.{layer, spelled};
 ghost use Rattle.layers.specs.Answer.{given};
 ghost use Rattle.outputs.specs.Outcome.{answerIn, bufferIn};
 ghost use Rattle.answers.specs.Flat.{flat};
@@ -22,7 +26,14 @@ fn staying(cur: &[u64], desliced: bool) -> &[u64]
     cur
 }
 
-// Of a Pointer and an Arraylike in front: where those that are wanted start, and where they end.
+// The layers that may stand in front of them.
+fn pointer_and_arraylike() -> [u64; 6]
+    ensures { λ r. ⌜ r ≡ spelled (layer kind.pointer 0 0 ∷ layer kind.arraylike 0 0 ∷ []) ⌝ }
+{
+    two_layers(Layer::pointer(), Layer::arraylike())
+}
+
+// Where those that are wanted start, and where they end.
 fn front_start(address: bool) -> usize
     ensures { λ r. ⌜ r ≡ cond address 0 3 ⌝ }
 {
@@ -40,7 +51,7 @@ pub fn arrive(out: &mut [u64], cur: &[u64], desliced: bool, address: bool) -> An
     ensures answer { λ r. ⌜ r ≡ flat (answerIn (now (out .entry)) (given (addressed address (seen (now (cur .entry)) desliced)))) ⌝ }
     ensures written { λ _. ⌜ now (out .exit) ≡ bufferIn (now (out .entry)) (given (addressed address (seen (now (cur .entry)) desliced))) ⌝ }
 {
-    let front = [Kind::POINTER, 0, 0, Kind::ARRAYLIKE, 0, 0];
+    let front = pointer_and_arraylike();
     let start = front_start(address);
     let end = front_end(desliced);
     let rest = staying(cur, desliced);

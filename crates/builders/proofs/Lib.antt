@@ -1,2 +1,2 @@
 pub mod Single
-pub mod Two
+pub mod Joined

@@ -6,6 +6,11 @@ use Rattle.builders.proofs.strings.for_string_literal.Kinds as literal-
 use Rattle.builders.proofs.strings.for_string_literal.Reads as literal
 use Rattle.builders.proofs.strings.for_string_slice.Kinds as slice-kinds
 use Rattle.builders.proofs.strings.for_string_slice.Reads as slice
+use Rattle.builders.proofs.two.two_layers.Kinds as two-layers-kinds
+use Rattle.builders.proofs.two.two_layers.Reads as two-layers
+
+pub two-layers-single : Single 0 two-layers-kinds.ps two-layers-kinds.r two-layers.Post
+two-layers-single κs a x y s t p q = p ∙ sym q
 
 pub for-string-literal-single : Single 0 literal-kinds.ps literal-kinds.r literal.Post
 for-string-literal-single κs a x y s t p q = p ∙ sym q

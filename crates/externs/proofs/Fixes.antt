@@ -2,15 +2,14 @@
 -- Assumes nothing.
 use mathlib.Core.Path.{_≡_, refl, sym, ap, _∙_}
 use mathlib.Core.Bool.{Bool, true, false, not}
-use mathlib.Core.List.{List, [], _++_}
+use mathlib.Core.List.{List, [], _∷_, _++_}
 use Prim.Native.Nat.{ℕ, _%_, _≤_, _<_}
 use native.Mathlib.Omega.{arith}
 use lib.ListN.{length, take, drop}
 use lib.Seq.{take-at, length-take-le}
 use borrow.Author.Tests.{eq-eqb, ne-eqb, lt-ltb, le-ltb, not-true, not-false}
 use Rattle.kinds.specs.Kind as kind
-use Rattle.kinds.specs.Words.{words}
-use Rattle.layers.specs.Layers.{Layer, layers, outer, spelled, Whole}
+use Rattle.layers.specs.Layers.{Layer, layer, layers, outer, spelled, Whole}
 use Rattle.layers.specs.Answer.{Answer, given, nothing, refused, ofChecked}
 use Rattle.checks.specs.Check.{checkOf}
 use Rattle.layers.specs.declared.answers.Checked.{Checked}
@@ -82,9 +81,9 @@ under-none nothing = refl
 under-none (refused n p) = refl
 
 module _ (ws : List ℕ) (k : ℕ) (e : k ≡ outer (layers ws)) where
-  pub as-endless : (front l : List ℕ) → front ≡ words kind.view 0 0 ++ words kind.endlessArray 0 0 → l ≡ drop 3 ws → k ≡ kind.arraylike →
+  pub as-endless : (front l : List ℕ) → front ≡ spelled (layer kind.view 0 0 ∷ layer kind.endlessArray 0 0 ∷ []) → l ≡ drop 3 ws → k ≡ kind.arraylike →
       under (layers front) (externalize 1 (layers l)) ≡ fixedExtern (layers ws)
-  unfolding layers fixedExtern
+  unfolding layers spelled fixedExtern
   as-endless front l f d h = rw (f, d, inner-layers ws, ← e, eq-eqb k kind.arraylike h)
 
   pub as-any : (k ≡ kind.arraylike → ⊥) → under (layers []) (externalize 0 (layers ws)) ≡ fixedExtern (layers ws)

@@ -13,6 +13,7 @@ use Rattle.layers.specs.Layers.{Layer, layer, layers, outer, inside, isReferenc
 use Rattle.layers.specs.Answer.{Answer, given, nothing, refused, next}
 use Rattle.layers.proofs.Decide.{both}
 use Rattle.checks.specs.Check.{Place, at, nowhere, badCount, badLayer, misplaced, checkOf, unless}
+use Rattle.checks.proofs.Accepted.{placed-inside}
 use Rattle.forms.specs.Formed.{wellFormed, inner, element}
 use Rattle.forms.proofs.Fits.{one, or, references}
 use Rattle.natives.specs.Fixed.{parameter, returned, member, fixedPlain}
@@ -131,11 +132,6 @@ unfolding misplaced
 ends p x [] e h = refl
 ends p x (y ∷ a) e h = let q : at p ≡ nowhere = rw h at e in cc
 
-goes-on : (p : ℕ) (x : Layer) (a : List Layer) → misplaced p (x ∷ a) ≡ nowhere → holdsInner (x .kind) ≡ true → misplaced (p + 1) a ≡ nowhere
-unfolding misplaced
-goes-on p x [] e h = refl
-goes-on p x (y ∷ a) e h = rw h at e
-
 externalized-extern : (p q : ℕ) (a b : List Layer) → misplaced q a ≡ nowhere → externalized p a ≡ given b → allExtern b ≡ true
 unfolding externalized
 externalized-extern p q [] b m e = absurd (no-type 6 p b e)
@@ -148,14 +144,14 @@ externalized-extern p q (x ∷ a) b m e =
     (λ g r.
     let i = from-under (turned x ∷ []) (externalized (p + 1) a) b r in
     rw (i .is, turned-extern x g)
-    (externalized-extern (p + 1) (q + 1) a (i .type) (goes-on q x a m (holds (x .kind) g)) (i .made)))
+    (externalized-extern (p + 1) (q + 1) a (i .type) (placed-inside q x a m (holds (x .kind) g) .1) (i .made)))
     (λ r. absurd (no-type 6 p b r))
     e
 
 element-ends : (a : List Layer) → misplaced 0 a ≡ nowhere → eqb (outer a) kind.arraylike ≡ true → misplaced 1 (inside a) ≡ nowhere
 unfolding outer inside misplaced
 element-ends [] m k = refl
-element-ends (x ∷ a) m k = goes-on 0 x a m (one (λ (k : ℕ). holdsInner k ≡ true) (x .kind) kind.arraylike k refl)
+element-ends (x ∷ a) m k = placed-inside 0 x a m (one (λ (k : ℕ). holdsInner k ≡ true) (x .kind) kind.arraylike k refl) .1
 
 extern-extern : (a b : List Layer) → misplaced 0 a ≡ nowhere → fixedExtern a ≡ given b → allExtern b ≡ true
 unfolding fixedExtern

@@ -1,5 +1,6 @@
 use buffers::write_words;
 use builders::Layer;
+use builders::two_layers;
 use forms::is_wellformed;
 use kinds::Kind;
 use layers::Checked;
@@ -8,11 +9,12 @@ use layers::outer;
 use outputs::write_type;
 ghost use mathlib.Core.Path.{_≡_};
 ghost use mathlib.Core.Bool.{cond, _||_};
+ghost use mathlib.Core.List.{[], _∷_};
 ghost use Prim.Native.Nat.{_≤_};
 ghost use lib.Dec.{eqb};
 ghost use Rattle.kinds.specs.Kind as kind;
 ghost use Rattle.kinds.specs.Words.{words};
-ghost use Rattle.layers.specs.Layers.{layers, isReference, Whole};
+ghost use Rattle.layers.specs.Layers.{layer, layers, isReference, spelled, Whole};
 ghost use Rattle.layers.specs.Answer.{ofChecked};
 ghost use Rattle.externs.specs.Fixing as fixing;
 ghost use Rattle.externs.specs.Room.{Room};
@@ -97,6 +99,12 @@ fn externalize_part(front: &[u64], t: &[u64], place: u64, out: &mut [u64]) -> Ch
     }
 }
 
+fn view_of_endless_array() -> [u64; 6]
+    ensures { λ r. ⌜ r ≡ spelled (layer kind.view 0 0 ∷ layer kind.endlessArray 0 0 ∷ []) ⌝ }
+{
+    two_layers(Layer::view(), Layer::endless_array())
+}
+
 // An extern type.
 pub(crate) fn fix_external(t: &[u64], out: &mut [u64]) -> Checked
     requires { ⌜ Whole (now t) ⌝ }
@@ -104,7 +112,7 @@ pub(crate) fn fix_external(t: &[u64], out: &mut [u64]) -> Checked
     ensures buffer { λ _. ⌜ now (out .exit) ≡ bufferIn (now (out .entry)) (fixing.fixedExtern (layers (now (t .entry)))) ⌝ }
 {
     if outer(t) == Kind::ARRAYLIKE {
-        let front = [Kind::VIEW, 0, 0, Kind::ENDLESS_ARRAY, 0, 0];
+        let front = view_of_endless_array();
         return externalize_part(&front, inner(t), 1, out);
     }
     externalize_part(&t[..0], t, 0, out)

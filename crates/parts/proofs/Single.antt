@@ -1,18 +1,12 @@
--- Each public contract allows one result: any two that it allows of the same arguments coincide.
+-- Each public contract allows one part: the words of any two that it allows of the same arguments coincide.
 -- Assumes nothing.
 use mathlib.Core.Path.{sym, _∙_}
-use Rattle.layers.proofs.Single.{Single, SinglePart}
-use Rattle.parts.proofs.inside.has_element.Kinds as has-element-kinds
-use Rattle.parts.proofs.inside.has_element.Reads as has-element
+use Rattle.layers.proofs.Single.{SinglePart}
 use Rattle.parts.proofs.inside.get_element_type.Reads as element
 use Rattle.parts.proofs.inside.get_pointee_type.Reads as pointee
 use Rattle.parts.proofs.inside.get_viewee_type.Reads as viewee
 use Rattle.parts.proofs.inside.fully_dereferenced.Reads as dereferenced
 
-pub has-element-single : Single 0 has-element-kinds.ps has-element-kinds.r has-element.Post
-has-element-single κs a x y s t p q = p ∙ sym q
-
--- of a part that is handed back, the words coincide
 pub get-element-type-single : SinglePart element.Post
 get-element-type-single κs a x y s t p q = p ∙ sym q
 

@@ -7,7 +7,7 @@ use layers::outer;
 ghost use mathlib.Core.Path.{_≡_};
 ghost use Rattle.parts.specs.Parts.{elementOf, pointeeOf, vieweeOf, fullyDereferenced, hasElement, innerIf};
 
-pub fn has_element(k: u64) -> bool
+fn has_element(k: u64) -> bool
     ensures { λ r. ⌜ r ≡ hasElement k ⌝ }
 {
     is_array(k) | is_slice(k)

@@ -5,4 +5,3 @@ pub use inside::fully_dereferenced;
 pub use inside::get_element_type;
 pub use inside::get_pointee_type;
 pub use inside::get_viewee_type;
-pub use inside::has_element;

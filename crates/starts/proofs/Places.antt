@@ -1,54 +1,105 @@
 -- The word at which a part starts, by the part that was asked for.
 -- Assumes nothing.
-use mathlib.Core.Path.{_≡_}
-use mathlib.Core.Bool.{Bool, true, false, cond}
+use mathlib.Core.Path.{_≡_, refl, sym, ap, _∙_}
+use mathlib.Core.Bool.{Bool, true, false, cond, _||_, or-true}
 use mathlib.Core.List.{List, [], _∷_}
-use Prim.Native.Nat.{ℕ, _+_, _*_, _-_, _≤_}
+use Prim.Native.Nat.{ℕ, _+_, _*_, _-_, _/_, _≤_, _<_}
 use native.Mathlib.Omega.{arith}
-use lib.ListN.{length, length-drop}
-use Rattle.layers.specs.Layers.{layers, outer, isReference}
-use Rattle.layers.specs.Answer.{Answer, given}
-use Rattle.parts.specs.Parts.{references, fullyDereferenced, hasElement, hasPointee, hasViewee}
+use lib.Dec.{eqb}
+use lib.ListN.{length, drop, length-drop}
+use borrow.Author.Tests.{ne-eqb, eqb-true}
+use Rattle.kinds.specs.Kind as kind
+use Rattle.layers.specs.Layers.{Layer, layers, outer, isArray, isSlice, isReference, holdsInner}
+use Rattle.layers.specs.Answer.{Answer, given, nothing, ofChecked}
+use Rattle.layers.specs.declared.answers.Checked.{Checked}
+use Rattle.layers.specs.declared.answers.Checked.the-variants.{Good}
+use Rattle.checks.specs.Check.{nowhere, misplaced, checkOf, isGood}
+use Rattle.checks.proofs.Passing.{counted-by}
+use Rattle.checks.proofs.Accepted.{placed-inside, accepted-placed, accepted-count, accepted-inside}
+use Rattle.parts.specs.Parts.{innerIf, elementOf, pointeeOf, vieweeOf, references, fullyDereferenced, hasElement, hasPointee, hasViewee}
 use Rattle.starts.specs.Starts.{innerStart, startIn}
 use Rattle.starts.specs.declared.starting.Part.{Part}
 use Rattle.starts.specs.declared.starting.Part.the-variants as part
 
--- the Pointers and Views are layers of the words
-within : (ws : List ℕ) → references (layers ws) * 3 ≤ length ws
-unfolding references layers
-within [] = omega arith
-within (k ∷ []) = omega arith
-within (k ∷ n ∷ []) = omega arith
-within (k ∷ n ∷ m ∷ ws) = by-kind (isReference k) (within ws)
+-- no part has more words than the type
+module _ (ws l : List ℕ) where
+  inner-short : (f : Bool) → l ≡ innerIf f ws → length l ≤ length ws
+  inner-short true e = rw e (simp length-drop (omega arith))
+  inner-short false e = rw e (omega arith)
+
+  pub element-short : l ≡ elementOf ws → length l ≤ length ws
+  unfolding elementOf
+  element-short e = inner-short (hasElement (outer (layers ws))) e
+
+  pub pointee-short : l ≡ pointeeOf ws → length l ≤ length ws
+  unfolding pointeeOf
+  pointee-short e = inner-short (hasPointee (outer (layers ws))) e
+
+  pub viewee-short : l ≡ vieweeOf ws → length l ≤ length ws
+  unfolding vieweeOf
+  viewee-short e = inner-short (hasViewee (outer (layers ws))) e
+
+  pub dereferenced-short : l ≡ fullyDereferenced ws → length l ≤ length ws
+  unfolding fullyDereferenced
+  dereferenced-short e = rw e (simp length-drop (omega arith))
+
+-- the Pointers and Views outside are not all the layers
+references-fewer : (p : ℕ) (a : List Layer) → misplaced p a ≡ nowhere → 0 < length a → references a < length a
+unfolding references
+references-fewer p [] e h = h
+references-fewer p (x ∷ a) e h = by-kind (isReference (x .kind)) refl (references-fewer (p + 1) a)
   where
-    by-kind : (b : Bool) → references (layers ws) * 3 ≤ length ws → cond b (references (layers ws) + 1) 0 * 3 ≤ length (k ∷ n ∷ m ∷ ws)
-    by-kind true h = omega arith
-    by-kind false h = omega arith
+    holds : isReference (x .kind) ≡ true → holdsInner (x .kind) ≡ true
+    holds f = rw f (or-true (isArray (x .kind) || isSlice (x .kind)))
 
-module _ (ws l : List ℕ) (e : l ≡ fullyDereferenced ws) where
-  pub shorter-left : length l ≤ length ws
-  unfolding fullyDereferenced
-  shorter-left = rw e (simp length-drop (omega arith))
+    by-kind : (b : Bool) → isReference (x .kind) ≡ b → (misplaced (p + 1) a ≡ nowhere → 0 < length a → references a < length a) →
+        cond b (references a + 1) 0 < length (x ∷ a)
+    by-kind true f fewer = let i = placed-inside p x a e (holds f) in omega (arith, fewer (i .1) (i .0))
+    by-kind false f fewer = omega arith
 
-  pub words-off : length ws - length l ≡ references (layers ws) * 3
-  unfolding fullyDereferenced
-  words-off = rw (e, length-drop) (omega (arith, within ws))
+-- words that pass the checks
+module _ (ws : List ℕ) where
+  pub passes : (c : Checked) (i : ℕ) → ofChecked c ≡ checkOf ws → c ≡ Good i → isGood (checkOf ws) ≡ true
+  passes c i e h = rw (← e, h)
 
--- where a part starts, by the part that was asked for
-module _ (p : Part) (ws : List ℕ) (r : Answer ℕ) where
-  module _ (k : ℕ) (e : k ≡ outer (layers ws)) where
-    pub at-element : (f : Bool) → p ≡ part.Element → f ≡ hasElement k → r ≡ innerStart f → r ≡ startIn p (layers ws)
-    unfolding startIn
-    at-element f h g q = rw (h, ← e, ← g) q
+  module _ (g : isGood (checkOf ws) ≡ true) where
+    count : checkOf ws ≡ given (length ws / 3)
+    count = sym (counted-by ws true (sym g) refl)
 
-    pub at-pointee : p ≡ part.Pointee → r ≡ innerStart (hasPointee k) → r ≡ startIn p (layers ws)
-    unfolding startIn
-    at-pointee h q = rw (h, ← e) q
+    -- where a part starts, by its words
+    abbrev measured : List ℕ → Answer ℕ
+    measured l = cond (eqb (length l) 0) nothing (given (length ws - length l))
 
-    pub at-viewee : p ≡ part.Viewee → r ≡ innerStart (hasViewee k) → r ≡ startIn p (layers ws)
-    unfolding startIn
-    at-viewee h q = rw (h, ← e) q
+    measured-some : (l : List ℕ) (n : ℕ) → length ws ≡ n + length l → 0 < length l → measured l ≡ given n
+    measured-some l n e h =
+        let d : length ws - length l ≡ n = omega arith in
+        rw (ne-eqb (length l) 0 (λ z. omega arith), d)
 
-  pub at-dereferenced : (l : List ℕ) → p ≡ part.Dereferenced → l ≡ fullyDereferenced ws → r ≡ given (length ws - length l) → r ≡ startIn p (layers ws)
-  unfolding startIn
-  at-dereferenced l h e q = rw (h, ← words-off ws l e) q
+    inner-measured : (f : Bool) (l : List ℕ) → (f ≡ true → holdsInner (outer (layers ws)) ≡ true) → l ≡ innerIf f ws → measured l ≡ innerStart f
+    inner-measured true l h e =
+        let m = accepted-inside ws (length ws / 3) count (h refl) in
+        let k : length l ≡ length ws - 3 = ap length e ∙ length-drop 3 ws in
+        measured-some l 3 (omega arith) (omega arith)
+    inner-measured false l h e = rw e
+
+    -- where a part starts, by the part that was asked for
+    module _ (p : Part) (r : Answer ℕ) (l : List ℕ) (q : r ≡ measured l) where
+      pub at-element : p ≡ part.Element → l ≡ elementOf ws → r ≡ startIn p (layers ws)
+      unfolding startIn elementOf
+      at-element h e = rw h (q ∙ inner-measured (hasElement (outer (layers ws))) l (λ f. rw f) e)
+
+      pub at-pointee : p ≡ part.Pointee → l ≡ pointeeOf ws → r ≡ startIn p (layers ws)
+      unfolding startIn pointeeOf
+      at-pointee h e = rw h (q ∙ inner-measured (hasPointee (outer (layers ws))) l (λ f. rw (eqb-true (outer (layers ws)) kind.pointer f)) e)
+
+      pub at-viewee : p ≡ part.Viewee → l ≡ vieweeOf ws → r ≡ startIn p (layers ws)
+      unfolding startIn vieweeOf
+      at-viewee h e = rw h (q ∙ inner-measured (hasViewee (outer (layers ws))) l (λ f. rw (eqb-true (outer (layers ws)) kind.view f)) e)
+
+      pub at-dereferenced : p ≡ part.Dereferenced → l ≡ fullyDereferenced ws → r ≡ startIn p (layers ws)
+      unfolding startIn fullyDereferenced
+      at-dereferenced h e =
+          let c = accepted-count ws (length ws / 3) count in
+          let n = references-fewer 0 (layers ws) (accepted-placed ws (length ws / 3) count) (c .1) in
+          let k : length l ≡ length ws - references (layers ws) * 3 = ap length e ∙ length-drop (references (layers ws) * 3) ws in
+          rw h (q ∙ measured-some l (references (layers ws) * 3) (omega arith) (omega arith))

@@ -1,12 +1,18 @@
-use kinds::Kind;
 use layers::Checked;
-use layers::outer;
 use parts::fully_dereferenced;
-use parts::has_element;
+use parts::get_element_type;
+use parts::get_pointee_type;
+use parts::get_viewee_type;
 use refusals::check_type;
 ghost use mathlib.Core.Path.{_≡_};
+ghost use mathlib.Core.Bool.{true, cond};
+ghost use Prim.Native.Nat.{_-_, _≤_};
+ghost use lib.Dec.{eqb};
+ghost use lib.ListN.{length};
 ghost use Rattle.layers.specs.Layers.{layers};
-ghost use Rattle.starts.specs.Starts.{ofStart, innerStart, startIn, startAnswer};
+ghost use Rattle.layers.specs.Answer.{given, nothing};
+ghost use Rattle.checks.specs.Check.{checkOf, isGood};
+ghost use Rattle.starts.specs.Starts.{ofStart, startIn, startAnswer};
 
 // The parts of a type that can be asked for.
 pub enum Part {
@@ -23,23 +29,27 @@ pub enum Start {
     Refused { number: u64, place: u64 },
 }
 
-fn start_if(there: bool) -> Start
-    ensures { λ r. ⌜ ofStart r ≡ innerStart there ⌝ }
+// Where a part starts that reaches to the last word; a part without words is none.
+fn start_at(a: &[u64], part: &[u64]) -> Start
+    requires { ⌜ length (now part) ≤ length (now a) ⌝ }
+    ensures { λ r. ⌜ ofStart r ≡ cond (eqb (length (now (part .entry))) 0) nothing (given (length (now (a .entry)) - length (now (part .entry)))) ⌝ }
 {
-    if there { Start::At(3) } else { Start::Nothing }
+    if part.len() == 0 {
+        return Start::Nothing;
+    }
+    Start::At((a.len() - part.len()) as u64)
 }
 
+// Where a part starts of words that pass the checks.
 fn start_in(part: Part, a: &[u64]) -> Start
+    requires { ⌜ isGood (checkOf (now a)) ≡ true ⌝ }
     ensures { λ r. ⌜ ofStart r ≡ startIn part (layers (now (a .entry))) ⌝ }
 {
     match part {
-        Part::Element => start_if(has_element(outer(a))),
-        Part::Pointee => start_if(outer(a) == Kind::POINTER),
-        Part::Viewee => start_if(outer(a) == Kind::VIEW),
-        Part::Dereferenced => {
-            let left = fully_dereferenced(a);
-            Start::At((a.len() - left.len()) as u64)
-        }
+        Part::Element => start_at(a, get_element_type(a)),
+        Part::Pointee => start_at(a, get_pointee_type(a)),
+        Part::Viewee => start_at(a, get_viewee_type(a)),
+        Part::Dereferenced => start_at(a, fully_dereferenced(a)),
     }
 }
 

@@ -1,4 +1,4 @@
-use Rattle.arrivals.proofs.Arriving.{starts, ends, told}
+use Rattle.arrivals.proofs.Arriving.{starts, ends, ends-within, told}
 use borrow.Author.Needs.{needs}
 use Rattle.arrivals.proofs.arrival.arrive.Statement.{statement}
 use Rattle.arrivals.proofs.arrival.arrive.Tie as tie
@@ -10,10 +10,15 @@ arrive-spec =
     (λ c κs. search needs)
     (λ c κs. search needs)
     (λ c κs. search needs)
-    (λ c. let f = c .before .before in let a = f .before .before .before .before in search (needs, starts (a .args .address) _ (f .before .front-start .ensures)))
-    (λ c. let f = c .before .before in let a = f .before .before .before .before in search (needs, starts (a .args .address) _ (f .before .front-start .ensures), ends (a .args .desliced) _ (f .front-end .ensures) .0))
-    (λ c. let f = c .before .before .before in let a = f .before .before .before .before in search (needs, starts (a .args .address) _ (f .before .front-start .ensures), ends (a .args .desliced) _ (f .front-end .ensures) .0))
-    (λ c. let f = c .before .before .before in let a = f .before .before .before .before in search (needs, ends (a .args .desliced) _ (f .front-end .ensures) .1))
+    (λ c κs. search needs)
+    (λ c. let f = c .before .before in let t = f .before .before in let a = t .before .before .before in search (needs, starts (a .args .address) _ (f .before .front-start .ensures)))
+    (λ c. let f = c .before .before in let t = f .before .before in let a = t .before .before .before in search (needs, starts (a .args .address) _ (f .before .front-start .ensures), ends (a .args .desliced) _ (f .front-end .ensures)))
+    (λ c. let f = c .before .before .before in let t = f .before .before in let a = t .before .before .before in search (needs, starts (a .args .address) _ (f .before .front-start .ensures), ends (a .args .desliced) _ (f .front-end .ensures)))
+    (λ c.
+    let f = c .before .before .before in
+    let t = f .before .before in
+    let a = t .before .before .before in
+    search (needs, ends-within (a .args .desliced) _ _ (t .pointer-and-arraylike .ensures) (f .front-end .ensures)))
     (λ c κs. search needs)
     (λ c κs. search needs)
     (λ c. search needs)
@@ -21,5 +26,6 @@ arrive-spec =
     let w = c .before .before .before in
     let s = w .before .before .before .before in
     let f = s .before in
-    let a = f .before .before .before .before in
-    told (a .args .address) (a .args .desliced) _ _ (f .before .front-start .ensures) (f .front-end .ensures) (a .args .cur .now) _ (a .args .out .now) _ _ _ (s .staying .ensures) (w .write-type .ensures) (c .checked .ensures)))
+    let t = f .before .before in
+    let a = t .before .before .before in
+    told (a .args .address) (a .args .desliced) _ _ _ (t .pointer-and-arraylike .ensures) (f .before .front-start .ensures) (f .front-end .ensures) (a .args .cur .now) _ (a .args .out .now) _ _ _ (s .staying .ensures) (w .write-type .ensures) (c .checked .ensures)))

@@ -1,5 +1,5 @@
 use borrow.Author.Needs.{needs}
-use Rattle.builders.proofs.Two.{two}
+use Rattle.builders.proofs.Joined.{two}
 use Rattle.builders.proofs.strings.for_string_slice.Statement.{statement}
 use Rattle.builders.proofs.strings.for_string_slice.Tie as tie
 

@@ -1,5 +1,5 @@
 use borrow.Author.Needs.{needs}
-use mathlib.Core.Path.{refl, ap}
+use mathlib.Core.Path.{ap}
 use Rattle.outputs.specs.Outcome.{delivered}
 use Rattle.outputs.proofs.Outcomes.{carried}
 use Rattle.externs.proofs.Fixes.{whole-inside, as-endless, as-any}
@@ -11,14 +11,16 @@ fix-external-spec =
     tie.close
     (tie.spec
     (λ c κs. search needs)
+    (λ c κs. search needs)
     (λ c. search needs)
     (λ c κs. search needs)
     (λ c κs. search (needs, whole-inside))
     (λ c. search needs)
     (λ c.
     let i = c .before .before .before .before in
-    let t = i .before .before in
-    carried _ _ _ _ _ (ap (delivered _) (as-endless _ _ (t .before .outer .ensures) _ _ refl (i .inner .ensures) (t .if1 .taken))) (c .before .before .externalize-part .ensures))
+    let v = i .before .before in
+    let t = v .before in
+    carried _ _ _ _ _ (ap (delivered _) (as-endless _ _ (t .before .outer .ensures) _ _ (v .view-of-endless-array .ensures) (i .inner .ensures) (t .if1 .taken))) (c .before .before .externalize-part .ensures))
     (λ c. search needs)
     (λ c κs. search needs)
     (λ c. search needs)

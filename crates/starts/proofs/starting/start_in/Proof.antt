@@ -1,5 +1,5 @@
 use borrow.Author.Needs.{needs}
-use Rattle.starts.proofs.Places.{shorter-left, at-element, at-pointee, at-viewee, at-dereferenced}
+use Rattle.starts.proofs.Places.{element-short, pointee-short, viewee-short, dereferenced-short, at-element, at-pointee, at-viewee, at-dereferenced}
 use Rattle.starts.proofs.starting.start_in.Statement.{statement}
 use Rattle.starts.proofs.starting.start_in.Tie as tie
 
@@ -9,18 +9,17 @@ start-in-spec =
     (tie.spec
     (λ c. search needs)
     (λ c κs. search needs)
-    (λ c κs. search needs)
-    (λ c κs. search needs)
+    (λ c κs. search (element-short, pointee-short, viewee-short, dereferenced-short))
     (λ c. search needs)
     (λ c κs. search needs)
-    (λ c κs. search needs)
+    (λ c κs. search (element-short, pointee-short, viewee-short, dereferenced-short))
     (λ c. search needs)
     (λ c κs. search needs)
-    (λ c κs. search needs)
+    (λ c κs. search (element-short, pointee-short, viewee-short, dereferenced-short))
     (λ c. search needs)
     (λ c κs. search needs)
-    (λ c. search (needs, shorter-left))
+    (λ c κs. search (element-short, pointee-short, viewee-short, dereferenced-short))
     (λ c. search at-element)
     (λ c. search at-pointee)
     (λ c. search at-viewee)
-    (λ c. search (at-dereferenced, needs)))
+    (λ c. search at-dereferenced))

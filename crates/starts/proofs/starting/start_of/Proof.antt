@@ -1,6 +1,7 @@
 use borrow.Author.Needs.{needs}
 use Rattle.starts.specs.Starts.{startAnswer}
 use Rattle.checks.proofs.Refusals.{refuses, accepts}
+use Rattle.starts.proofs.Places.{passes}
 use Rattle.starts.proofs.starting.start_of.Statement.{statement}
 use Rattle.starts.proofs.starting.start_of.Tie as tie
 
@@ -12,6 +13,6 @@ start-of-spec =
     (λ c κs. search needs)
     (λ c. search needs)
     (λ c. search needs)
-    (λ c κs. search needs)
+    (λ c κs. search passes)
     (λ c. search refuses)
     (λ c. search accepts))

@@ -1,11 +1,11 @@
 use borrow.Author.Needs.{needs}
 use Rattle.layers.specs.Layers.{spelled}
-use Rattle.builders.proofs.strings.holding.Statement.{statement}
-use Rattle.builders.proofs.strings.holding.Tie as tie
+use Rattle.builders.proofs.two.two_layers.Statement.{statement}
+use Rattle.builders.proofs.two.two_layers.Tie as tie
 
-pub holding-spec : {M : Type 1} → statement M
+pub two-layers-spec : {M : Type 1} → statement M
 unfolding spelled
-holding-spec =
+two-layers-spec =
     tie.close
     (tie.spec
     (λ c. search needs)
