@@ -1,12 +1,13 @@
 /* Blocks of exactly the size that is told: from malloc, or at an end of some pages between two that nobody
  * may touch, so that a read or a write past that end stops the run whatever code makes it. */
 #include "strength.h"
+#include <stddef.h>
 #include <stdio.h>
 #include <stdlib.h>
 #include <string.h>
 #include <sys/mman.h>
 
-enum { PAGES = 1 << 16, PAGE = 1 << 16, MARGIN = 64, MARK = 0xa5 };
+enum { PAGES = 1 << 16, PAGE = 1 << 16, MARGIN = 64, MARK = 0xa5, BETWEEN = 0x5a };
 
 typedef enum { FROM_MALLOC, AT_START, AT_END } way;
 
@@ -14,11 +15,9 @@ typedef struct {
     unsigned char *pages, *at, *copy;
     size_t bytes;
     way how;
-    bool records;
 } block;
 
 bool only_malloc;
-uint64_t paddings;
 static block blocks[MOST_LENT];
 static size_t lent;
 
@@ -47,7 +46,6 @@ void *lend_room(size_t bytes)
 {
     block *b = &blocks[lent++];
     b->bytes = bytes;
-    b->records = false;
     b->how = only_malloc ? FROM_MALLOC : (way)below(3);
     if (b->how == FROM_MALLOC) {
         b->at = malloc(bytes);
@@ -75,11 +73,31 @@ void *lend(const void *content, size_t bytes)
     return at;
 }
 
+/* The bytes between authority and place, which belong to no field. */
+static void fill_between(tj_symbol *records, size_t count)
+{
+    size_t from = offsetof(tj_symbol, authority) + sizeof(bool);
+    for (size_t i = 0; i < count; i++)
+        memset((unsigned char *)&records[i] + from, BETWEEN, offsetof(tj_symbol, place) - from);
+}
+
 tj_symbol *lend_records(const tj_symbol *records, size_t count)
 {
     tj_symbol *at = lend(records, count * sizeof *records);
-    blocks[lent - 1].records = true;
+    fill_between(at, count);
+    memcpy(blocks[lent - 1].copy, at, count * sizeof *at);
     return at;
+}
+
+/* Those from malloc always allow them. */
+void allow_writes(bool allowed)
+{
+    for (size_t i = 0; i < lent; i++)
+        if (blocks[i].how != FROM_MALLOC &&
+            mprotect(blocks[i].pages, PAGES, allowed ? PROT_READ | PROT_WRITE : PROT_READ)) {
+            perror("strength");
+            exit(2);
+        }
 }
 
 bool same_record(const tj_symbol *a, const tj_symbol *b)
@@ -94,17 +112,9 @@ bool kept_from(size_t number, size_t byte)
     return byte <= b->bytes && !memcmp(b->at + byte, b->copy + byte, b->bytes - byte);
 }
 
-/* Records field by field: the bytes between the fields hold nothing. */
 bool kept(size_t number)
 {
-    const block *b = &blocks[number];
-    if (!b->records)
-        return kept_from(number, 0);
-    const tj_symbol *now = (const tj_symbol *)b->at, *before = (const tj_symbol *)b->copy;
-    for (size_t i = 0; i < b->bytes / sizeof *now; i++)
-        if (!same_record(&now[i], &before[i]))
-            return false;
-    return true;
+    return kept_from(number, 0);
 }
 
 bool all_kept(void)
@@ -130,9 +140,6 @@ bool close_lending(void)
     bool good = true;
     for (size_t i = 0; i < lent; i++) {
         block *b = &blocks[i];
-        /* Those bytes may hold nothing at all, which a tool that only knows malloc would tell of. */
-        if (!only_malloc && b->records && kept(i) && !kept_from(i, 0))
-            paddings++;
         if (b->how == FROM_MALLOC) {
             free(b->at);
         } else {

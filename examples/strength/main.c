@@ -11,7 +11,6 @@ enum { MOST_EXPORTS = 64 };
 static export exports[MOST_EXPORTS];
 static size_t export_count;
 static uint64_t told[MOST_EXPORTS][REFUSALS];
-static uint64_t refused_paddings;
 
 static void gather(const export *some, size_t count)
 {
@@ -21,13 +20,12 @@ static void gather(const export *some, size_t count)
 
 static bool call(size_t which)
 {
-    uint64_t refusal = 0, before = paddings;
+    uint64_t refusal = 0;
     open_lending();
     bool good = exports[which].run(exports[which].which, &refusal);
     good = close_lending() && good;
     if (refusal < REFUSALS)
         told[which][refusal]++;
-    refused_paddings += refusal != 0 && paddings > before;
     return good;
 }
 
@@ -75,10 +73,6 @@ int main(int argc, char **argv)
     printf("%-36s %9s %9s refused, number:times\n", "export", "calls", "accepted");
     report();
     printf("%zu exports\n", export_count);
-    if (!only_malloc)
-        printf("after %" PRIu64 " calls, %" PRIu64 " of them refused, a record whose fields are kept has other "
-               "bytes between them\n",
-               paddings, refused_paddings);
     printf("%" PRIu64 " passed, %" PRIu64 " failed\n", calls - failed, failed);
     return failed > 0;
 }

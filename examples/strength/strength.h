@@ -28,11 +28,11 @@ uint64_t some_number(void);
 /* lent.c: blocks that are lent to one call, numbered in the order of lending. */
 enum { MOST_LENT = 8 };
 extern bool only_malloc;
-extern uint64_t paddings; /* calls after which bytes of a record that belong to no field are others */
 void open_lending(void);
 void *lend(const void *content, size_t bytes);
 void *lend_room(size_t bytes);
 tj_symbol *lend_records(const tj_symbol *records, size_t count);
+void allow_writes(bool allowed); /* to the blocks between pages; without, a write stops the run */
 bool same_record(const tj_symbol *a, const tj_symbol *b);
 bool kept(size_t block);
 bool kept_from(size_t block, size_t byte);

@@ -13,10 +13,9 @@ use lib.ListN.{length, drop, getD, set, replicate, length-replicate, length-set,
 use lib.Seq.{getD-set-same, getD-set-other, drop-cons}
 use borrow.Author.Tests.{lt-ltb, le-ltb, ltb-true, ltb-false, eqb-true, eqb-false}
 use Rattle.columns.specs.Rows.{vacant, bit, sixSet, putRow, rowAt, readFrom}
-use Rattle.searches.specs.Search.{slotFor, slotIn}
 use Rattle.columns.specs.declared.symbol.Symbol.{Symbol}
 use Rattle.columns.proofs.Reading.{length-read}
-use Rattle.tables.specs.Gathered.{rowsInto, gatheredInto, gathered, slotOf}
+use Rattle.tables.specs.Gathered.{rowsInto, gatheredInto, gathered}
 
 -- a record more in its columns
 module _ (ws : List ℕ) (table : List Symbol) where
@@ -171,15 +170,6 @@ read-back table h =
     ap (λ (t : Bool). readFrom (cond t zeros (rowsInto zeros table (length table))) 0 (length table)) (le-ltb 128 (length table) h)
     ∙ back-drop zeros (length-replicate {A = ℕ} 768 0) table 0 (length table) h (zero-add (length table))
 
--- Whatever is asked of the columns of at most 128 records is asked of the table.
-pub swap : {A : Type 0} (table : List Symbol) (a : A) (F : List Symbol → A) →
-    cond (ltb 128 (length table)) a (F (readFrom (gathered table) 0 (length table))) ≡ cond (ltb 128 (length table)) a (F table)
-swap {A} table a F = both (ltb 128 (length table)) refl
-  where
-    both : (t : Bool) → ltb 128 (length table) ≡ t → cond t a (F (readFrom (gathered table) 0 (length table))) ≡ cond t a (F table)
-    both true e = refl
-    both false e = ap F (read-back table (ltb-false 128 (length table) e))
-
 -- A rule that answers the same of all tables of one length over 128 cannot tell the columns from the table.
 pub swapped : {A : Type 0} (table : List Symbol) (F : List Symbol → A) (a : A) →
     ((l : List Symbol) → length l ≡ length table → 128 < length l → F l ≡ a) →
@@ -192,8 +182,3 @@ swapped {A} table F a many = both (ltb 128 (length table)) refl
         let over : 128 < length table = ltb-true 128 (length table) e in
         many (readFrom (gathered table) 0 (length table)) n (subst (λ (k : ℕ). 128 < k) (sym n) over) ∙ sym (many table refl over)
     both false e = ap F (read-back table (ltb-false 128 (length table) e))
-
--- the search through the columns is the search through the table
-pub slot-same : (table : List Symbol) (id : ℕ) → slotIn (gathered table) (length table) id ≡ slotOf table id
-unfolding slotIn slotOf
-slot-same table id = swap table (length table) (slotFor id)

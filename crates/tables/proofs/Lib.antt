@@ -2,5 +2,6 @@
 pub mod Guard
 pub mod Lending
 pub mod Gathering
+pub mod Finding
 pub mod Pass
 pub mod Single
