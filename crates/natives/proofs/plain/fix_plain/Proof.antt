@@ -3,7 +3,7 @@ use mathlib.Core.Path.{ap}
 use Rattle.layers.specs.Answer.{given}
 use Rattle.outputs.specs.Outcome.{delivered}
 use Rattle.outputs.proofs.Outcomes.{carried}
-use Rattle.natives.proofs.Fronts.{with-front, as-it-is}
+use Rattle.natives.proofs.Fronts.{as-slice, as-view, as-slice-pointer, as-it-is}
 use Rattle.natives.proofs.plain.fix_plain.Statement.{statement}
 use Rattle.natives.proofs.plain.fix_plain.Tie as tie
 
@@ -13,26 +13,49 @@ fix-plain-spec =
     (tie.spec
     (λ c κs. search needs)
     (λ c κs. search needs)
+    (λ c. search needs)
     (λ c κs. search needs)
+    (λ c κs. search needs)
+    (λ c. search needs)
+    (λ c.
+    let w = c .before .before in
+    let f = w .before .before .before .before in
+    let o = f .before .before in
+    carried _ _ _ _ _ (ap (delivered _) (ap given (as-slice _ _ _ (o .outer .ensures) _ _ (f .before .if1 .taken) (f .slice .ensures) (w .before .inner .ensures)))) (w .write-type .ensures))
     (λ c κs. search needs)
     (λ c κs. search needs)
     (λ c. search needs)
     (λ c κs. search needs)
     (λ c. search needs)
     (λ c.
-    let i = c .before .before .before .before .before in
-    let f = i .before in
-    let v = f .before in
-    let h = v .before in
-    carried _ _ _ _ _ (ap (delivered _) (ap given (as-it-is _ _ _ _ _ _ _ (h .before .before .outer .ensures) (h .before .inner .ensures) (h .outer2 .ensures) (v .is-viewed .ensures) (f .front-of .ensures) (i .if1 .taken)))) (c .before .before .write-type .ensures))
+    let w = c .before .before in
+    let f = w .before .before .before in
+    let v = f .before .before in
+    let o = v .before .before in
+    carried _ _ _ _ _ (ap (delivered _) (ap given (as-view _ _ _ (o .outer .ensures) (v .before .if1 .left) _ (v .is-viewed .ensures) _ (f .before .if2 .taken) (f .view .ensures)))) (w .write-type2 .ensures))
+    (λ c κs. search needs)
+    (λ c κs. search needs)
+    (λ c κs. search needs)
     (λ c. search needs)
     (λ c κs. search needs)
     (λ c κs. search needs)
     (λ c. search needs)
     (λ c.
-    let b = c .before .before .before in
-    let i = b .before .before .before in
-    let f = i .before in
-    let v = f .before in
-    let h = v .before in
-    carried _ _ _ _ _ (ap (delivered _) (ap given (with-front _ _ _ _ _ _ _ (h .before .before .outer .ensures) (h .before .inner .ensures) (h .outer2 .ensures) (v .is-viewed .ensures) (f .front-of .ensures) _ (i .if1 .left) (b .behind .ensures)))) (c .before .before .write-type2 .ensures)))
+    let w = c .before .before in
+    let f = w .before .before .before .before in
+    let h = f .before .before in
+    let e = h .before .before in
+    let v = e .before in
+    let o = v .before .before in
+    carried _ _ _ _ _ (ap (delivered _) (ap given (as-slice-pointer _ _ _ (o .outer .ensures) (v .before .if1 .left) _ (v .is-viewed .ensures) (e .if2 .left) _ _ (h .before .inner2 .ensures) (h .outer2 .ensures) _ _ (f .before .if3 .taken) (f .slice-pointer .ensures) (w .before .inner3 .ensures)))) (w .write-type3 .ensures))
+    (λ c. search needs)
+    (λ c κs. search needs)
+    (λ c. search needs)
+    (λ c.
+    let w = c .before .before in
+    let i = w .before .before .before in
+    let h = i .before in
+    let e = h .before .before in
+    let v = e .before in
+    let o = v .before .before in
+    carried _ _ _ _ _ (ap (delivered _) (ap given (as-it-is _ _ _ (o .outer .ensures) (v .before .if1 .left) _ (v .is-viewed .ensures) (e .if2 .left) _ _ (h .before .inner2 .ensures) (h .outer2 .ensures) (i .if3 .left)))) (w .write-type4 .ensures)))
