@@ -9,8 +9,8 @@ use lib.Dec.{eqb, ltb}
 use lib.ListN.{length}
 use borrow.Author.Tests.{ltb-false, eqb-true, eqb-false}
 use Rattle.layers.specs.Layers.{Layer, layers, outer, holdsInner, Whole}
-use Rattle.layers.specs.Answer.{Answer, given, refused}
-use Rattle.checks.specs.Check.{Place, at, nowhere, badCount, goodLayer, badLayer, misplaced, unless, checkOf, isGood}
+use Rattle.layers.specs.Answer.{Answer, given, refused, isGiven}
+use Rattle.checks.specs.Check.{Place, at, nowhere, badCount, goodLayer, badLayer, misplaced, unless, checkOf}
 use Rattle.layers.proofs.Decide.{neither}
 use Rattle.layers.proofs.Given.{not-given}
 use Rattle.layers.proofs.Spelling.{spelled-length, spelled-layers}
@@ -85,5 +85,5 @@ module _ (ws : List ℕ) (n : ℕ) (e : checkOf ws ≡ given n) where
       more [] q f = absurd (false≢true f)
       more (x ∷ a) q f = omega (arith, placed-inside 0 x a q f .0)
 
-pub good-whole : (ws : List ℕ) → isGood (checkOf ws) ≡ true → Whole ws
+pub good-whole : (ws : List ℕ) → isGiven (checkOf ws) ≡ true → Whole ws
 good-whole ws e = accepted-whole ws (length ws / 3) (sym (counted-by ws true (sym e) refl))

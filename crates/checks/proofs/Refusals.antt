@@ -3,8 +3,7 @@
 use mathlib.Core.Path.{_≡_, refl, sym, ap, _∙_}
 use mathlib.Core.Bool.{Bool, true, false, true≢false, false≢true}
 use Prim.Native.Nat.{ℕ}
-use Rattle.layers.specs.Answer.{Answer, given, nothing, refused, ofChecked, next, truth}
-use Rattle.checks.specs.Check.{isGood}
+use Rattle.layers.specs.Answer.{Answer, given, nothing, refused, ofChecked, next, truth, isGiven}
 use Rattle.layers.specs.declared.answers.Checked.{Checked}
 use Rattle.layers.specs.declared.answers.Checked.the-variants.{Good, Refused}
 
@@ -20,21 +19,21 @@ pub answered : (f g : Bool) (r : Answer ℕ) → r ≡ truth f → f ≡ g → r
 answered f g r q e = rw e at q
 
 -- the checks of two types, by whether the left one passes
-module _ (x y : Answer ℕ) (good : Bool) (e : good ≡ isGood x) where
+module _ (x y : Answer ℕ) (good : Bool) (e : good ≡ isGiven x) where
   pub left-passes : (r : Answer ℕ) → good ≡ true → r ≡ y → r ≡ next x y
   left-passes r f q = by-answer x (sym e ∙ f)
     where
-      by-answer : (z : Answer ℕ) → isGood z ≡ true → r ≡ next z y
+      by-answer : (z : Answer ℕ) → isGiven z ≡ true → r ≡ next z y
       by-answer (given n) g = q
       by-answer nothing g = absurd (false≢true g)
       by-answer (refused n p) g = absurd (false≢true g)
 
   pub left-fails : (v : Checked) → good ≡ false → ofChecked v ≡ x → ofChecked v ≡ next x y
-  left-fails (Good n) f q = absurd (true≢false (ap isGood q ∙ (sym e ∙ f)))
+  left-fails (Good n) f q = absurd (true≢false (ap isGiven q ∙ (sym e ∙ f)))
   left-fails (Refused n p) f q = rw (← q)
 
 -- what follows checks that pass
-pub passed : {A : Type 0} (x : Answer ℕ) (c : Answer A) → isGood x ≡ true → next x c ≡ c
+pub passed : {A : Type 0} (x : Answer ℕ) (c : Answer A) → isGiven x ≡ true → next x c ≡ c
 passed (given n) c e = refl
 passed nothing c e = absurd (false≢true e)
 passed (refused n p) c e = absurd (false≢true e)

@@ -1,12 +1,12 @@
 -- The checks 1 to 3 of a type's words: "Types are checked 1, 2 (all layers), 3".
-use mathlib.Core.Bool.{Bool, true, false, cond, not, _&&_, _||_}
+use mathlib.Core.Bool.{Bool, true, cond, not, _&&_, _||_}
 use mathlib.Core.List.{List, [], _∷_}
 use Prim.Native.Nat.{ℕ, _+_, _/_, _%_, _-_, _^_}
 use lib.Dec.{eqb, leb, ltb}
 use lib.ListN.{length}
 use Rattle.kinds.specs.Kind as kind
 use Rattle.layers.specs.Layers.{Layer, layers, holdsInner}
-use Rattle.layers.specs.Answer.{Answer, given, nothing, refused}
+use Rattle.layers.specs.Answer.{Answer, given, refused}
 
 -- The place of the first layer that a check stumbles over, from 0; or none.
 pub data Place : Type 0 where
@@ -61,9 +61,3 @@ checkOf ws =
     (unless (badLayer 0 (layers ws)) 2
     (unless (misplaced 0 (layers ws)) 3
     (given (length ws / 3))))
-
--- Whether words pass the checks.
-abbrev pub isGood : Answer ℕ → Bool
-isGood (given n) = true
-isGood nothing = false
-isGood (refused n p) = false

@@ -1,11 +1,12 @@
 use crate::good::good_holder;
 use crate::good::good_leaf;
 ghost use mathlib.Core.Path.{_≡_};
-ghost use Rattle.checks.specs.Check.{checkOf, isGood};
+ghost use Rattle.layers.specs.Answer.{isGiven};
+ghost use Rattle.checks.specs.Check.{checkOf};
 
 // Whether words pass the checks 1 to 3: layers that hold an inner type, and a leaf.
 pub fn is_type(ws: &[u64]) -> bool
-    ensures { λ r. ⌜ r ≡ isGood (checkOf (now (ws .entry))) ⌝ }
+    ensures { λ r. ⌜ r ≡ isGiven (checkOf (now (ws .entry))) ⌝ }
 {
     let n = ws.len();
     if (n == 0) | (n > 48) {

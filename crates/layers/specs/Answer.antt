@@ -12,6 +12,12 @@ pub data Answer (A : Type 0) : Type 0 where
   nothing : Answer A
   refused : ℕ → ℕ → Answer A
 
+-- Whether there is a value.
+abbrev pub isGiven : {A : Type 0} → Answer A → Bool
+isGiven (given v) = true
+isGiven nothing = false
+isGiven (refused n p) = false
+
 -- Words that pass the checks: how many layers they are.
 abbrev pub ofChecked : Checked → Answer ℕ
 ofChecked (checked.Good n) = given n

@@ -10,9 +10,9 @@ use lib.ListN.{length, take}
 use lib.Seq.{take-all}
 use borrow.Author.Tests.{eqb-false, ne-eqb, lt-leb, not-true, not-false}
 use Rattle.layers.specs.Answer as paper
-use Rattle.layers.specs.Answer.{given, refused, ofChecked, next}
+use Rattle.layers.specs.Answer.{given, refused, ofChecked, next, isGiven}
 use Rattle.checks.proofs.Refusals.{passed}
-use Rattle.checks.specs.Check.{checkOf, isGood}
+use Rattle.checks.specs.Check.{checkOf}
 use Rattle.layers.specs.declared.answers.Checked.{Checked}
 use Rattle.layers.specs.declared.answers.Checked.the-variants.{Good, Refused}
 use Rattle.orders.specs.Order.{knownStates, allFree, takenFirst, taken, hasId, repeats, passes, allPass, inOrder}
@@ -66,12 +66,12 @@ module _ (s : Symbol) (ws : List ℕ) where
               rw (one, h, e, lt-leb (s .state) 2 over)
 
       module _ (t : s .state ≡ 1) where
-        pub typed-fits : (stored : List ℕ) (r : Bool) → stored ≡ storedWords (s .layers) ws → r ≡ isGood (checkOf stored) → r ≡ loneInOrder s ws
+        pub typed-fits : (stored : List ℕ) (r : Bool) → stored ≡ storedWords (s .layers) ws → r ≡ isGiven (checkOf stored) → r ≡ loneInOrder s ws
         unfolding passes
         typed-fits stored r q f = rw (one, h, t, take-all 48 ws (omega (arith, h)), ← q, f)
 
 -- g is whether the offered words pass the checks
-module _ (s : Symbol) (ws : List ℕ) (authority : Bool) (offered : List ℕ) (g : Bool) (e : g ≡ isGood (checkOf offered)) where
+module _ (s : Symbol) (ws : List ℕ) (authority : Bool) (offered : List ℕ) (g : Bool) (e : g ≡ isGiven (checkOf offered)) where
   module _ (f : not g ≡ true) (x : Checked) (q : ofChecked x ≡ checkOf offered) where
     pub answers-refused : (id place : ℕ) (a : Answer) → a ≡ flat (ofChecked x) →
         record { symbol = s; answer = a } ≡ loneUpdated s ws id authority place offered
@@ -80,7 +80,7 @@ module _ (s : Symbol) (ws : List ℕ) (authority : Bool) (offered : List ℕ) (g
       where
         by-checks : (y : Checked) → ofChecked y ≡ checkOf offered → a ≡ flat (ofChecked y) →
             record { symbol = s; answer = a } ≡ loneUpdated s ws id authority place offered
-        by-checks (Good n) p r = absurd (true≢false (ap isGood p ∙ (sym e ∙ not-true g f)))
+        by-checks (Good n) p r = absurd (true≢false (ap isGiven p ∙ (sym e ∙ not-true g f)))
         by-checks (Refused n m) p r = rw (← p, r)
 
     pub keeps-refused : ws ≡ loneWordsAfter s ws authority offered
@@ -88,7 +88,7 @@ module _ (s : Symbol) (ws : List ℕ) (authority : Bool) (offered : List ℕ) (g
     keeps-refused = by-checks x q
       where
         by-checks : (y : Checked) → ofChecked y ≡ checkOf offered → ws ≡ loneWordsAfter s ws authority offered
-        by-checks (Good n) p = absurd (true≢false (ap isGood p ∙ (sym e ∙ not-true g f)))
+        by-checks (Good n) p = absurd (true≢false (ap isGiven p ∙ (sym e ∙ not-true g f)))
         by-checks (Refused n m) p = rw (← p)
 
   module _ (f : not g ≡ false) (b : Bool) (i : b ≡ loneInOrder s ws) where

@@ -11,8 +11,8 @@ use lib.Seq.{take-all}
 use borrow.Author.Tests.{eqb-true}
 use Rattle.layers.specs.Layers.{layers}
 use Rattle.layers.specs.Answer as paper
-use Rattle.layers.specs.Answer.{given, nothing, refused, next}
-use Rattle.checks.specs.Check.{badCount, badLayer, misplaced, checkOf, unless, isGood}
+use Rattle.layers.specs.Answer.{given, nothing, refused, next, isGiven}
+use Rattle.checks.specs.Check.{badCount, badLayer, misplaced, checkOf, unless}
 use Rattle.checks.proofs.Checks.{start}
 use Rattle.buffers.specs.Written.{written}
 use Rattle.buffers.proofs.Writing.{length-written}
@@ -27,18 +27,18 @@ use Rattle.lone.specs.Lone.{loneInOrder, loneCheck, unlessRefused, loneU
 use Rattle.lone.proofs.Alone.{one}
 
 -- words that pass the checks
-counted : (ws : List ℕ) → isGood (checkOf ws) ≡ true → (length ws ≤ 48) × (length ws % 3 ≡ 0)
+counted : (ws : List ℕ) → isGiven (checkOf ws) ≡ true → (length ws ≤ 48) × (length ws % 3 ≡ 0)
 unfolding checkOf
 counted ws e = by-count (badCount (length ws)) refl e
   where
     by-count : (b : Bool) → badCount (length ws) ≡ b →
-        isGood (cond b (refused 1 0) (unless (badLayer 0 (layers ws)) 2 (unless (misplaced 0 (layers ws)) 3 (given (length ws / 3))))) ≡ true →
+        isGiven (cond b (refused 1 0) (unless (badLayer 0 (layers ws)) 2 (unless (misplaced 0 (layers ws)) 3 (given (length ws / 3))))) ≡ true →
         (length ws ≤ 48) × (length ws % 3 ≡ 0)
     by-count true c f = absurd (false≢true f)
     by-count false c f = (start ws c .few, start ws c .whole)
 
 -- what is offered and the lone record pass the checks
-both-pass : (x : paper.Answer ℕ) (b : Bool) → isGood x ≡ true → b ≡ true → next {B = ℕ} x (cond b (given 0) (refused 12 0)) ≡ given 0
+both-pass : (x : paper.Answer ℕ) (b : Bool) → isGiven x ≡ true → b ≡ true → next {B = ℕ} x (cond b (given 0) (refused 12 0)) ≡ given 0
 both-pass (given n) true e f = refl
 both-pass (given n) false e f = absurd (false≢true f)
 both-pass nothing b e f = absurd (false≢true e)
@@ -64,7 +64,7 @@ module _ (s : Symbol) (ws : List ℕ) (id : ℕ) (authority : Bool) (place : ℕ
       by-check nothing h = unchanged s ws id authority place offered h
       by-check (refused n p) h = (refl, refl)
 
-  module _ (e : isGood (checkOf offered) ≡ true) (o : loneInOrder s ws ≡ true) where
+  module _ (e : isGiven (checkOf offered) ≡ true) (o : loneInOrder s ws ≡ true) where
     pass : loneCheck s ws offered ≡ given 0
     unfolding loneCheck
     pass = both-pass (checkOf offered) (loneInOrder s ws) e o

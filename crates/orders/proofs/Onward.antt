@@ -11,11 +11,12 @@ use lib.Dec.{eqb, leb}
 use lib.ListN.{length, take, drop, getD, set, length-set}
 use lib.Seq.{drop-drop, getD-set-same, getD-set-other}
 use borrow.Author.Tests.{lt-leb, eq-eqb, ne-eqb, eqb-true, eqb-false}
+use Rattle.layers.specs.Answer.{isGiven}
 use Rattle.layers.proofs.Decide.{both, neither, eqb-sym}
 use Rattle.columns.specs.declared.symbol.Symbol.{Symbol}
 use Rattle.columns.specs.Rows.{free, rowAt, readFrom}
 use Rattle.columns.specs.Stored.{storedWords}
-use Rattle.checks.specs.Check.{checkOf, isGood}
+use Rattle.checks.specs.Check.{checkOf}
 use Rattle.columns.proofs.Reading.{from, read-more, read-end, read-all, read-last, length-read}
 use Rattle.orders.specs.Order.{knownStates, allFree, takenFirst, taken, hasId, repeats, passes, allPass, inOrder}
 use Rattle.orders.specs.Standing.{stands, Noted}
@@ -306,7 +307,7 @@ pub id-start : (ws : List ℕ) (n id : ℕ) → (false || hasId id (from ws n 0)
 id-start ws n id = ap (hasId id) (read-all ws n)
 
 -- a typed record's words
-pub words-pass : (state layers : ℕ) (ws stored : List ℕ) (r : Bool) → state ≡ 1 → stored ≡ storedWords layers ws → r ≡ isGood (checkOf stored) →
+pub words-pass : (state layers : ℕ) (ws stored : List ℕ) (r : Bool) → state ≡ 1 → stored ≡ storedWords layers ws → r ≡ isGiven (checkOf stored) →
     r ≡ passes state layers ws
 unfolding passes
 words-pass state layers ws stored r e p q = rw (eq-eqb state 1 e, ← p) q

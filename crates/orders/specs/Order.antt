@@ -4,7 +4,8 @@ use mathlib.Core.List.{List, [], _∷_}
 use Prim.Native.Nat.{ℕ, _*_}
 use lib.Dec.{eqb, leb}
 use lib.ListN.{length, take, drop}
-use Rattle.checks.specs.Check.{checkOf, isGood}
+use Rattle.layers.specs.Answer.{isGiven}
+use Rattle.checks.specs.Check.{checkOf}
 use Rattle.columns.specs.declared.symbol.Symbol.{Symbol}
 use Rattle.columns.specs.Rows.{free}
 use Rattle.columns.specs.Stored.{storedWords}
@@ -38,7 +39,7 @@ repeats (s ∷ table) = hasId (s .id) table || repeats table
 
 -- "each typed record's words pass checks 1-3"
 unfoldable pub passes : ℕ → ℕ → List ℕ → Bool
-passes state layers words = cond (eqb state 1) (isGood (checkOf (storedWords layers words))) true
+passes state layers words = cond (eqb state 1) (isGiven (checkOf (storedWords layers words))) true
 
 -- "Slot k's type stands in a lent store of words from 48k on."
 unfoldable pub allPass : List Symbol → List ℕ → Bool

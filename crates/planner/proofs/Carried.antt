@@ -21,8 +21,8 @@ use contract.Monad.{Fun, fact}
 use denote.Ref.{now}
 use denote.Triple.Entry.{Args}
 use Rattle.layers.specs.Layers.{Layer, layers, spelled}
-use Rattle.layers.specs.Answer.{Answer, given, nothing, refused, next}
-use Rattle.checks.specs.Check.{checkOf, isGood}
+use Rattle.layers.specs.Answer.{Answer, given, nothing, refused, next, isGiven}
+use Rattle.checks.specs.Check.{checkOf}
 use Rattle.layers.proofs.Decide.{both}
 use Rattle.layers.proofs.Given.{not-given, nothing-given, given-is}
 use Rattle.checks.proofs.Accepted.{goodLayers, accepted-whole, accepted-good}
@@ -57,7 +57,7 @@ use Rattle.planner.proofs.Answered.{not-refused}
 use Rattle.planner.proofs.entry.autoderef as autoderef
 
 -- the layers of every member of a table in order are good
-good-words : (ws : List ℕ) (x : Answer ℕ) → checkOf ws ≡ x → isGood x ≡ true → goodLayers (layers ws) ≡ true
+good-words : (ws : List ℕ) (x : Answer ℕ) → checkOf ws ≡ x → isGiven x ≡ true → goodLayers (layers ws) ≡ true
 good-words ws (given n) e g = accepted-good ws n e
 good-words ws nothing e g = absurd (false≢true g)
 good-words ws (refused n p) e g = absurd (false≢true g)

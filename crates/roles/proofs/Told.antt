@@ -5,12 +5,12 @@ use mathlib.Core.Bool.{Bool, not, _&&_}
 use mathlib.Core.List.{List}
 use Prim.Native.Nat.{ℕ}
 use Rattle.layers.specs.Layers.{Layer, outer}
-use Rattle.layers.specs.Answer.{Answer}
+use Rattle.layers.specs.Answer.{Answer, isGiven}
 use Rattle.sizes.specs.Answer.{ofSize}
 use Rattle.sizes.specs.Known.{knownSize}
 use Rattle.sizes.specs.declared.answers.Size.{Size}
 use Rattle.forms.specs.Formed.{wellFormed}
-use Rattle.roles.specs.Roles.{refuses, needs, isGiven, canBe}
+use Rattle.roles.specs.Roles.{refuses, needs, canBe}
 use Rattle.roles.specs.declared.roles.Role.{Role}
 
 pub known-told : (x y : Size) (a : Answer ℕ) (r : Bool) → ofSize x ≡ a → x ≡ y → r ≡ isGiven (ofSize y) → r ≡ isGiven a

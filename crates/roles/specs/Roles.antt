@@ -1,11 +1,11 @@
 -- "Roles: the kinds refused are those the seven functions from `can_be_sized` to `can_be_returned` list".
-use mathlib.Core.Bool.{Bool, true, false, not, _&&_, _||_}
+use mathlib.Core.Bool.{Bool, true, not, _&&_, _||_}
 use mathlib.Core.List.{List}
 use Prim.Native.Nat.{ℕ}
 use lib.Dec.{eqb}
 use Rattle.kinds.specs.Kind as kind
 use Rattle.layers.specs.Layers.{Layer, layers, outer}
-use Rattle.layers.specs.Answer.{Answer, given, nothing, refused, next, truth}
+use Rattle.layers.specs.Answer.{Answer, refused, next, truth, isGiven}
 use Rattle.checks.specs.Check.{checkOf}
 use Rattle.sizes.specs.Known.{knownSize}
 use Rattle.forms.specs.Formed.{wellFormed}
@@ -57,11 +57,6 @@ needs role.Constant formed known = formed
 needs role.Variable formed known = formed
 needs role.Parameter formed known = formed
 needs role.Returned formed known = formed
-
-abbrev pub isGiven : Answer ℕ → Bool
-isGiven (given n) = true
-isGiven nothing = false
-isGiven (refused n p) = false
 
 unfoldable pub canBe : Role → List Layer → Bool
 canBe r a = not (refuses r (outer a)) && needs r (wellFormed a) (isGiven (knownSize a))

@@ -9,7 +9,7 @@ use sizes::known_size;
 ghost use mathlib.Core.Path.{_≡_};
 ghost use mathlib.Core.Bool.{not};
 ghost use Rattle.layers.specs.Layers.{layers};
-ghost use Rattle.layers.specs.Answer.{ofVerdict};
+ghost use Rattle.layers.specs.Answer.{ofVerdict, isGiven};
 ghost use Rattle.sizes.specs.Known.{knownSize};
 ghost use Rattle.roles.specs.Roles as roles;
 
@@ -117,7 +117,7 @@ fn needs(role: Role, formed: bool, known: bool) -> bool
 }
 
 fn has_known_size(a: &[u64]) -> bool
-    ensures { λ r. ⌜ r ≡ roles.isGiven (knownSize (layers (now (a .entry)))) ⌝ }
+    ensures { λ r. ⌜ r ≡ isGiven (knownSize (layers (now (a .entry)))) ⌝ }
 {
     match known_size(a) {
         Size::Bytes(_) => true,

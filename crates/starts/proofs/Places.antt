@@ -6,14 +6,14 @@ use mathlib.Core.List.{List, [], _∷_}
 use Prim.Native.Nat.{ℕ, _+_, _*_, _-_, _/_, _≤_, _<_}
 use native.Mathlib.Omega.{arith}
 use lib.Dec.{eqb}
-use lib.ListN.{length, drop, length-drop}
+use lib.ListN.{length, length-drop}
 use borrow.Author.Tests.{ne-eqb, eqb-true}
 use Rattle.kinds.specs.Kind as kind
 use Rattle.layers.specs.Layers.{Layer, layers, outer, isArray, isSlice, isReference, holdsInner}
-use Rattle.layers.specs.Answer.{Answer, given, nothing, ofChecked}
+use Rattle.layers.specs.Answer.{Answer, given, nothing, ofChecked, isGiven}
 use Rattle.layers.specs.declared.answers.Checked.{Checked}
 use Rattle.layers.specs.declared.answers.Checked.the-variants.{Good}
-use Rattle.checks.specs.Check.{nowhere, misplaced, checkOf, isGood}
+use Rattle.checks.specs.Check.{nowhere, misplaced, checkOf}
 use Rattle.checks.proofs.Passing.{counted-by}
 use Rattle.checks.proofs.Accepted.{placed-inside, accepted-placed, accepted-count, accepted-inside}
 use Rattle.parts.specs.Parts.{innerIf, elementOf, pointeeOf, vieweeOf, references, fullyDereferenced, hasElement, hasPointee, hasViewee}
@@ -59,10 +59,10 @@ references-fewer p (x ∷ a) e h = by-kind (isReference (x .kind)) refl (referen
 
 -- words that pass the checks
 module _ (ws : List ℕ) where
-  pub passes : (c : Checked) (i : ℕ) → ofChecked c ≡ checkOf ws → c ≡ Good i → isGood (checkOf ws) ≡ true
+  pub passes : (c : Checked) (i : ℕ) → ofChecked c ≡ checkOf ws → c ≡ Good i → isGiven (checkOf ws) ≡ true
   passes c i e h = rw (← e, h)
 
-  module _ (g : isGood (checkOf ws) ≡ true) where
+  module _ (g : isGiven (checkOf ws) ≡ true) where
     count : checkOf ws ≡ given (length ws / 3)
     count = sym (counted-by ws true (sym g) refl)
 

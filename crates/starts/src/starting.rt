@@ -10,8 +10,8 @@ ghost use Prim.Native.Nat.{_-_, _≤_};
 ghost use lib.Dec.{eqb};
 ghost use lib.ListN.{length};
 ghost use Rattle.layers.specs.Layers.{layers};
-ghost use Rattle.layers.specs.Answer.{given, nothing};
-ghost use Rattle.checks.specs.Check.{checkOf, isGood};
+ghost use Rattle.layers.specs.Answer.{given, nothing, isGiven};
+ghost use Rattle.checks.specs.Check.{checkOf};
 ghost use Rattle.starts.specs.Starts.{ofStart, startIn, startAnswer};
 
 // The parts of a type that can be asked for.
@@ -42,7 +42,7 @@ fn start_at(a: &[u64], part: &[u64]) -> Start
 
 // Where a part starts of words that pass the checks.
 fn start_in(part: Part, a: &[u64]) -> Start
-    requires { ⌜ isGood (checkOf (now a)) ≡ true ⌝ }
+    requires { ⌜ isGiven (checkOf (now a)) ≡ true ⌝ }
     ensures { λ r. ⌜ ofStart r ≡ startIn part (layers (now (a .entry))) ⌝ }
 {
     match part {

@@ -8,10 +8,10 @@ use native.Mathlib.Omega.{arith}
 use lib.Dec.{leb}
 use lib.ListN.{length}
 use Rattle.layers.specs.Answer as paper
-use Rattle.layers.specs.Answer.{given, refused}
+use Rattle.layers.specs.Answer.{given, refused, isGiven}
 use Rattle.layers.specs.Layers.{layers}
 use Rattle.checks.specs.Check as check
-use Rattle.checks.specs.Check.{Place, at, nowhere, badCount, badLayer, misplaced, checkOf, isGood}
+use Rattle.checks.specs.Check.{Place, at, nowhere, badCount, badLayer, misplaced, checkOf}
 use Rattle.checks.proofs.Checks.{start}
 use Rattle.buffers.specs.Written.{written}
 use Rattle.buffers.proofs.Writing.{length-written}
@@ -50,12 +50,12 @@ module _ (ws : List ℕ) (e : notRefused (checkOf ws) ≡ true) where
   pub whole-layers : length ws / 3 * 3 ≡ length ws
   whole-layers = omega (arith, start ws counted .whole)
 
-  pub good-words : isGood (checkOf ws) ≡ true
+  pub good-words : isGiven (checkOf ws) ≡ true
   unfolding checkOf
   good-words = by-parts (badCount (length ws)) (badLayer 0 (layers ws)) (misplaced 0 (layers ws)) (length ws / 3) e
     where
       by-parts : (b : Bool) (p q : Place) (n : ℕ) → notRefused (cond b (refused 1 0) (check.unless p 2 (check.unless q 3 (given n)))) ≡ true →
-          isGood (cond b (refused 1 0) (check.unless p 2 (check.unless q 3 (given n)))) ≡ true
+          isGiven (cond b (refused 1 0) (check.unless p 2 (check.unless q 3 (given n)))) ≡ true
       by-parts true p q n f = absurd (false≢true f)
       by-parts false (at i) q n f = absurd (false≢true f)
       by-parts false nowhere (at i) n f = absurd (false≢true f)

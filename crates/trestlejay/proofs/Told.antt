@@ -6,8 +6,8 @@ use mathlib.Core.List.{List}
 use Prim.Native.Nat.{ℕ}
 use Rattle.layers.specs.Layers.{layers}
 use Rattle.layers.specs.Answer as paper
-use Rattle.layers.specs.Answer.{next, truth}
-use Rattle.checks.specs.Check.{checkOf, isGood}
+use Rattle.layers.specs.Answer.{next, truth, isGiven}
+use Rattle.checks.specs.Check.{checkOf}
 use Rattle.layers.proofs.Decide.{both}
 use Rattle.checks.proofs.Refusals.{passed}
 use Rattle.questions.specs.Answers.{relates, relationAnswer, passes, coercionAnswer}
@@ -47,10 +47,10 @@ unfolding flat
 no-told f r e q = rw e q
 
 -- both are types: no refusal comes before what follows
-module _ (a b : List ℕ) (g f : Bool) (r : Answer) (p : g ≡ (isGood (checkOf a) && isGood (checkOf b))) (h : g ≡ true) (q : r ≡ flat (truth f)) where
+module _ (a b : List ℕ) (g f : Bool) (r : Answer) (p : g ≡ (isGiven (checkOf a) && isGiven (checkOf b))) (h : g ≡ true) (q : r ≡ flat (truth f)) where
   follows : next (checkOf a) (next (checkOf b) (truth f)) ≡ truth f
   follows =
-      let e = both (isGood (checkOf a)) (isGood (checkOf b)) (sym p ∙ h) in
+      let e = both (isGiven (checkOf a)) (isGiven (checkOf b)) (sym p ∙ h) in
       passed (checkOf a) _ (e .0) ∙ passed (checkOf b) _ (e .1)
 
   pub relation-direct : (w : Relation) → f ≡ relates w (layers a) (layers b) → r ≡ flat (relationAnswer w a b)

@@ -6,14 +6,14 @@ use questions::Coercion;
 use questions::Relation;
 ghost use mathlib.Core.Path.{_≡_};
 ghost use mathlib.Core.Bool.{_&&_};
-ghost use Rattle.layers.specs.Answer.{truth};
-ghost use Rattle.checks.specs.Check.{checkOf, isGood};
+ghost use Rattle.layers.specs.Answer.{truth, isGiven};
+ghost use Rattle.checks.specs.Check.{checkOf};
 ghost use Rattle.questions.specs.Answers.{coercionAnswer, relationAnswer};
 ghost use Rattle.answers.specs.Flat.{flat};
 
 // Whether both are types. Nearly all that are asked about are, and of those no refusal has to be told.
 fn are_types(a: &[u64], b: &[u64]) -> bool
-    ensures { λ r. ⌜ r ≡ (isGood (checkOf (now (a .entry))) && isGood (checkOf (now (b .entry)))) ⌝ }
+    ensures { λ r. ⌜ r ≡ (isGiven (checkOf (now (a .entry))) && isGiven (checkOf (now (b .entry)))) ⌝ }
 {
     is_type(a) & is_type(b)
 }

@@ -7,8 +7,9 @@ use Prim.Native.Nat.{ℕ}
 use lib.Dec.{leb}
 use lib.ListN.{length, getD, List·getD-eq-default}
 use borrow.Author.Tests.{leb-true}
+use Rattle.layers.specs.Answer.{isGiven}
 use Rattle.layers.specs.Layers.{layers}
-use Rattle.checks.specs.Check.{checkOf, isGood}
+use Rattle.checks.specs.Check.{checkOf}
 use Rattle.columns.specs.declared.symbol.Symbol.{Symbol}
 use Rattle.columns.specs.Rows.{vacant, typed}
 use Rattle.columns.specs.Stored.{slotWords, storedWords}
@@ -23,7 +24,7 @@ use Rattle.walker.specs.Members.{wordsAt, ofLayers, memberWords, members
 use Rattle.walker.proofs.Storing.{stored-good}
 
 -- a type's words have a layer
-some-layer : (ws : List ℕ) → isGood (checkOf ws) ≡ true → ofLayers (layers ws) ≡ walker.typed (layers ws)
+some-layer : (ws : List ℕ) → isGiven (checkOf ws) ≡ true → ofLayers (layers ws) ≡ walker.typed (layers ws)
 unfolding checkOf layers
 some-layer [] e = absurd (false≢true e)
 some-layer (k ∷ []) e = absurd (false≢true e)

@@ -8,9 +8,10 @@ use native.Mathlib.Nat.{zero-add}
 use native.Mathlib.Omega.{arith}
 use lib.ListN.{length, take, getD, List·getD-eq-default}
 use borrow.Author.Tests.{lt-ltb, le-ltb, eq-eqb, ne-eqb}
+use Rattle.layers.specs.Answer.{isGiven}
 use Rattle.layers.specs.Layers.{Whole}
 use Rattle.layers.proofs.Decide.{yes}
-use Rattle.checks.specs.Check.{checkOf, isGood}
+use Rattle.checks.specs.Check.{checkOf}
 use Rattle.checks.proofs.Accepted.{good-whole}
 use Rattle.columns.specs.Rows.{vacant, rowAt, readFrom, typed}
 use Rattle.columns.specs.Stored.{slotWords, storedWords}
@@ -73,7 +74,7 @@ module _ (table : List Symbol) (store : List ℕ) (id : ℕ) (o : inOrder table 
   abbrev its : List ℕ
   its = storedWords (at .layers) (slotWords store (slotFor id table))
 
-  pub stored-good : typed at ≡ true → isGood (checkOf its) ≡ true
+  pub stored-good : typed at ≡ true → isGiven (checkOf its) ≡ true
   unfolding passes
   stored-good e = rw e at (pass-at table store (slotFor id table) (ordered table store o .pass))
 

@@ -8,7 +8,7 @@ use native.Mathlib.Omega.{arith}
 use lib.ListN.{length, take, getD}
 use Rattle.kinds.specs.Kind as kind
 use Rattle.layers.specs.Layers.{Layer, layer, layers}
-use Rattle.layers.specs.Answer.{Answer, given, nothing, refused, next}
+use Rattle.layers.specs.Answer.{Answer, given, nothing, refused, next, isGiven}
 use Rattle.layers.proofs.Given.{given-is}
 use Rattle.checks.specs.Check.{checkOf}
 use Rattle.orders.specs.Order.{inOrder}
@@ -25,13 +25,8 @@ whereOf (given t) = at t
 whereOf nothing = stuck
 whereOf (refused n p) = stuck
 
-abbrev gives : Answer (List Layer) → Bool
-gives (given t) = true
-gives nothing = false
-gives (refused n p) = false
-
 not-refused : (t : List Layer) (n q : ℕ) → given t ≡ refused n q → ⊥
-not-refused t n q e = false≢true (sym (ap gives e))
+not-refused t n q e = false≢true (sym (ap isGiven e))
 
 abbrev stays : Where → Bool
 stays (at t) = true
@@ -92,8 +87,8 @@ module _ (known ws store : List ℕ) (address : Bool) (table : List Symbol) (u :
       by-answer : (w : Answer (List Layer)) → andAddress address w ≡ given u →
           then stored (whereOf w) (λ v. at (cond address (layer kind.pointer 0 0 ∷ v) v)) ≡ at u
       by-answer (given t) e = ap at (given-is (addressed address t) u e)
-      by-answer nothing e = absurd (false≢true (ap gives e))
-      by-answer (refused n p) e = absurd (false≢true (ap gives e))
+      by-answer nothing e = absurd (false≢true (ap isGiven e))
+      by-answer (refused n p) e = absurd (false≢true (ap isGiven e))
 
   by-order : walkOrdered known ws address table store ≡ given u → arrives stored (steps ws) address (layers known) ≡ at u
   unfolding walkOrdered
@@ -101,12 +96,12 @@ module _ (known ws store : List ℕ) (address : Bool) (table : List Symbol) (u :
     where
       by-test : (f : Bool) → cond f (walkFrom known ws address table store) (refused 12 0) ≡ given u → arrives stored (steps ws) address (layers known) ≡ at u
       by-test true e = by-walk e
-      by-test false e = absurd (false≢true (ap gives e))
+      by-test false e = absurd (false≢true (ap isGiven e))
 
   after : (c : Answer ℕ) (w : Answer (List Layer)) → next c w ≡ given u → w ≡ given u
   after (given i) w e = e
   after nothing w e = e
-  after (refused n p) w e = absurd (false≢true (ap gives e))
+  after (refused n p) w e = absurd (false≢true (ap isGiven e))
 
   pub walk-arrives : walkTo known ws address table store ≡ given u → arrives stored (steps ws) address (layers known) ≡ at u
   unfolding walkTo
