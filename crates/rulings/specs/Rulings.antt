@@ -11,17 +11,19 @@ use Rattle.rulings.specs.Line.{Line}
 use Rattle.rulings.specs.declared.lines.Line as coded
 use Rattle.rulings.specs.declared.lines.Line.the-variants as code
 
--- "poisoned: accepted, nothing changes. Offered type, then stored type, ill formed: 4. Identical, or stored is a
--- concretization of offered: accepted, nothing changes. Symbol authoritative and offered is declared as stored: type
--- replaced, identifier kept. New identifier authoritative and offered is a concretization of or coerces into stored: both
--- replaced. Else 7."
 unfoldable pub lineOf : Bool → Bool → Bool → List Layer → List Layer → Line
 lineOf poisoned authoritative newly stored offered =
+    -- "poisoned: accepted, nothing changes."
     cond poisoned line.poisoned
+    -- "Offered type, then stored type, ill formed: 4."
     (cond (not (wellFormed offered && wellFormed stored)) line.illFormed
+    -- "Identical, or stored is a concretization of offered: accepted, nothing changes."
     (cond (identical stored offered || concretization stored offered) line.kept
+    -- "Symbol authoritative and offered is declared as stored: type replaced, identifier kept."
     (cond (authoritative && declared offered stored) line.typeReplaced
+    -- "New identifier authoritative and offered is a concretization of or coerces into stored: both replaced."
     (cond (newly && (concretization offered stored || coerces offered stored)) line.bothReplaced
+    -- "Else 7."
     line.conflicting))))
 
 -- Which line each of the code's is.
