@@ -91,13 +91,16 @@ typedef struct {
 static tj_answer changed(size_t which, const lent_table *l, const change *c)
 {
     if (which == 0)
-        return tj_put_type(l->table, l->nt, l->store, l->ns, c->id, c->authority, c->place, c->offered, c->n);
+        return tj_put_type(l->table, l->nt, l->store, l->ns, c->id, c->authority, c->place, c->offered,
+                           c->n);
     if (which == 1)
         return tj_put_poison(l->table, l->nt, l->store, l->ns, c->id, c->authority, c->place, c->mark);
     if (which == 2)
-        return tj_forward_declare_type(l->table, l->nt, l->store, l->ns, c->id, c->authority, c->place, c->offered, c->n);
+        return tj_forward_declare_type(l->table, l->nt, l->store, l->ns, c->id, c->authority, c->place,
+                                       c->offered, c->n);
     if (which == 3)
-        return tj_forward_declare_poison(l->table, l->nt, l->store, l->ns, c->id, c->authority, c->place, c->mark);
+        return tj_forward_declare_poison(l->table, l->nt, l->store, l->ns, c->id, c->authority, c->place,
+                                         c->mark);
     return tj_put_nothing(l->table, l->nt, l->store, l->ns, c->id, c->authority, c->place);
 }
 
