@@ -65,4 +65,5 @@ pub record Demand (stored : ℕ → Stored) (known : List Layer) (q : List Step)
   -- "A plain walker, knowing only what one step does to a type, takes the plan's steps from the known type, then the address
   -- if flagged, and arrives at exactly the reported type."
   pub there : (arrives stored (plan .steps) (plan .address) known ≡ at (plan .type)) ⊎ Hidden stored known target depth plan
+  -- Where the exception applies, the plan reports what it says.
   pub except : Exception stored known target depth walked → Hidden stored known target depth plan
