@@ -23,6 +23,7 @@ use Rattle.steps.proofs.Words.{good-append}
 use Rattle.settlings.specs.Settling.{Settled, pointer, settle}
 use Rattle.settlings.proofs.Lines.{lines}
 use Rattle.walker.specs.Walker.{at, Stored, typed, walker, arrives}
+use Rattle.walker.proofs.Where.{at-is}
 use Rattle.rounds.specs.Walk.{ended, walk}
 use Rattle.rounds.proofs.Finishing.{depth-few}
 use Rattle.reports.specs.Plan.{Plan}
@@ -31,7 +32,7 @@ use Rattle.planner.specs.Demand.{Exception, Hidden, Demand}
 use Rattle.planner.specs.Reported.{Reported}
 use Rattle.planner.proofs.Walks.{asked-append, walker-append, walks, in-order, all-taken, no-longer, no-more, all-good, few-steps}
 use Rattle.planner.proofs.Sound.{Passing, Sound, walk-sound}
-use Rattle.planner.proofs.Settles.{Unstepped, exact, at-is, settles, must-hide, asks-nothing, adds-good, adds-few}
+use Rattle.planner.proofs.Settles.{Unstepped, exact, settles, must-hide, asks-nothing, adds-good, adds-few}
 use Rattle.planner.proofs.Plans.{planned, every-plan}
 
 module _ (stored : ℕ → Stored) (members : (id : ℕ) (t : List Layer) → stored id ≡ typed t → Passing t)
@@ -55,7 +56,7 @@ module _ (stored : ℕ → Stored) (members : (id : ℕ) (t : List Layer) → st
       -- the walk ends on one type
       excepted : Exception stored known target depth ss → Hidden stored known target depth (planned ss k s)
       excepted x =
-          let is : x .c ≡ c = at-is stored (x .c) c (sym (x .ends) ∙ walks stored limit known q ss k c e) in
+          let is : x .c ≡ c = at-is (x .c) c (sym (x .ends) ∙ walks stored limit known q ss k c e) in
           hidden (must-hide stored c target depth sound s f (x .level) (rw is at (x .view)) (rw is at (x .last)))
 
       meets : Demand stored known q target depth limit (planned ss k s)
@@ -81,8 +82,8 @@ module _ (stored : ℕ → Stored) (members : (id : ℕ) (t : List Layer) → st
       narrow : length (s .type) ≤ 16 → (u : List Layer) → arrives stored (ss ++ s .steps) (s .address) known ≡ at u → length u ≤ 16
       narrow w u there =
           ⊎-elim
-          (λ l. let is : s .type ≡ u = at-is stored (s .type) u (sym (along (s .steps) (s .address) ∙ l) ∙ there) in rw (← is) w)
-          (λ x. let is : c ≡ u = at-is stored c u (sym (on-view x) ∙ there) in rw (← is) (sound .passing .few))
+          (λ l. let is : s .type ≡ u = at-is (s .type) u (sym (along (s .steps) (s .address) ∙ l) ∙ there) in rw (← is) w)
+          (λ x. let is : c ≡ u = at-is c u (sym (on-view x) ∙ there) in rw (← is) (sound .passing .few))
           (settles stored c target depth sound s f)
 
       -- a plan has at most one step for each round, one for each asked step, and 17 of the settling

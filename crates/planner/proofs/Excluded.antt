@@ -25,6 +25,7 @@ use Rattle.settlings.specs.Line.{Line}
 use Rattle.settlings.specs.Settling.{Settled, settleOtherwise, lineOf}
 use Rattle.settlings.proofs.Lines.{seventh}
 use Rattle.walker.specs.Walker.{Where, at, stuck, Stored, typed, absent, act, walker, arrives}
+use Rattle.walker.proofs.Where.{typeAt}
 use Rattle.reports.specs.Plan.{Plan}
 use Rattle.planner.specs.Demand.{unmarked, asked, rounds, Hidden, Demand}
 use Rattle.planner.specs.Reported.{Reported}
@@ -66,10 +67,6 @@ isLast line.iv = false
 isLast line.v = false
 isLast line.vi = false
 isLast line.vii = true
-
-abbrev typeAt : Where → List Layer
-typeAt (at t) = t
-typeAt stuck = []
 
 none-before : (ss us : List Step) → [] ≡ ss ++ us → ss ≡ []
 none-before [] us e = refl

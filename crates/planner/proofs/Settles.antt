@@ -26,6 +26,7 @@ use Rattle.settlings.specs.Line as line
 use Rattle.settlings.specs.Settling.{Settled, settled, pointer, dereferenced, settleOtherwise, lineOf, settleBy, settle}
 use Rattle.settlings.proofs.Lines.{lines, seventh}
 use Rattle.walker.specs.Walker.{at, Stored, act, walker, arrives}
+use Rattle.walker.proofs.Where.{at-is}
 use Rattle.planner.specs.Demand.{asked}
 use Rattle.checks.proofs.Accepted.{goodLayers}
 use Rattle.planner.proofs.Sound.{Sound, inner-of}
@@ -80,9 +81,6 @@ view-flat [] e = refl
 view-flat (x ∷ a) e = rw (eqb-true (x .kind) kind.view e)
 
 module _ (stored : ℕ → Stored) where
-  pub at-is : (a b : List Layer) → at a ≡ at b → a ≡ b
-  at-is a b e = cc
-
   module _ (x : Layer) (a : List Layer) (k : x .kind ≡ kind.pointer) (g : goodLayer x ≡ true)
       (below : (m n : ℕ) → pointerDepth a ≡ m + n → walker stored (replicate m autoderef) a ≡ at (replicate n pointer ++ drop (references a) a)) where
     one-off : drop (references a + 1) (x ∷ a) ≡ drop (references a) a

@@ -1,4 +1,5 @@
 -- What the proofs of several functions use, and what follows from the definitions.
+pub mod Where
 pub mod Storing
 pub mod Getting
 pub mod Single

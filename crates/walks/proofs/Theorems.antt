@@ -16,6 +16,7 @@ use Rattle.columns.specs.declared.symbol.Symbol.{Symbol}
 use Rattle.steps.specs.Steps.{Step, step, steps, stepsAnswer}
 use Rattle.walker.specs.Walker.{Where, at, stuck, Stored, act, then, walker, arrives}
 use Rattle.walker.specs.Members.{members}
+use Rattle.walker.proofs.Where.{at-is, not-stuck}
 use Rattle.arrivals.specs.Arrived.{addressed}
 use Rattle.walks.specs.Walked.{unlessStuck, walkedFrom, andAddress, walkFrom, walkOrdered, walkTo}
 
@@ -27,16 +28,6 @@ whereOf (refused n p) = stuck
 
 not-refused : (t : List Layer) (n q : ℕ) → given t ≡ refused n q → ⊥
 not-refused t n q e = false≢true (sym (ap isGiven e))
-
-abbrev stays : Where → Bool
-stays (at t) = true
-stays stuck = false
-
-not-stuck : (t : List Layer) → stuck ≡ at t → ⊥
-not-stuck t e = false≢true (ap stays e)
-
-at-is : (t u : List Layer) → at t ≡ at u → t ≡ u
-at-is t u e = cc
 
 place-is : (n m p q : ℕ) (x : Answer (List Layer)) → x ≡ refused n p → x ≡ refused m q → q ≡ p
 place-is n m p q x d e = cc
