@@ -21,7 +21,7 @@ use Rattle.settlings.specs.Line.{Line}
 use Rattle.settlings.specs.Settling.{Settled, settleOtherwise, lineOf, settleBy, settle}
 use Rattle.walker.specs.Walker.{Stored, typed, absent}
 use Rattle.walker.specs.Members.{members}
-use Rattle.rounds.specs.Walk.{Walk, ended, stopped, stepsOf, takenBy, memberType, goes, turnOf, onward, walk}
+use Rattle.rounds.specs.Walk.{Walk, ended, stopped, stepsOf, takenBy, memberType, goes, turnAt, onward, walk}
 use Rattle.reports.specs.Plan.{Plan}
 use Rattle.rounds.specs.Walked.{withSettling, settleWalk}
 use Rattle.planner.specs.Plan.{planOf}
@@ -93,7 +93,7 @@ module _ (stored : ℕ → Stored) where
   walk-stops zero t q = refl
   walk-stops (suc n) t [] = refl
   walk-stops (suc n) t (a ∷ q) =
-      let r = turnOf stored t a in
+      let r = turnAt t a in
       onward-stops (stepsOf a r) (takenBy r) (goes stored t a r) (λ u. walk stored n u (drop (takenBy r) (a ∷ q))) (goes-tells t a r)
       (λ u. walk-stops n u (drop (takenBy r) (a ∷ q)))
 

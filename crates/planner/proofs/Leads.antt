@@ -18,7 +18,7 @@ use Rattle.layers.proofs.Given.{not-given, given-is}
 use Rattle.turns.proofs.Cases.{cases}
 use Rattle.walker.specs.Walker.{at, Stored, typed, absent, act, walker}
 use Rattle.rounds.proofs.Going.{one-in, two-in}
-use Rattle.rounds.specs.Walk.{stepsOf, takenBy, memberType, goes, turnOf}
+use Rattle.rounds.specs.Walk.{stepsOf, takenBy, memberType, goes, turnAt}
 use Rattle.planner.specs.Demand.{asked, unmarked, rounds}
 
 pub reached : (m : Stored) (u : List Layer) → memberType m ≡ given u → m ≡ typed u
@@ -40,7 +40,7 @@ module _ (stored : ℕ → Stored) (t : List Layer) (a : Step) where
   abbrev Leads : Turn → Type 0
   Leads r = (u : List Layer) → goes stored t a r ≡ given u → walker stored (stepsOf a r) t ≡ at u
 
-  pub leads : Leads (turnOf stored t a)
+  pub leads : Leads (turnAt t a)
   unfolding walker act outer inside
   leads =
       cases (outer t) (outer (inside t)) (a .kind) (a .mark) Leads
@@ -54,8 +54,8 @@ module _ (stored : ℕ → Stored) (t : List Layer) (a : Step) where
       (λ e f u g. rw (f, e, reached (stored (a .handle)) u g))
 
   -- the asked steps of a round are those that it takes
-  pub takes : (q : List Step) (u : List Layer) → goes stored t a (turnOf stored t a) ≡ given u →
-      asked (stepsOf a (turnOf stored t a)) ≡ map unmarked (take (takenBy (turnOf stored t a)) (a ∷ q))
+  pub takes : (q : List Step) (u : List Layer) → goes stored t a (turnAt t a) ≡ given u →
+      asked (stepsOf a (turnAt t a)) ≡ map unmarked (take (takenBy (turnAt t a)) (a ∷ q))
   unfolding asked
   takes q u =
       cases (outer t) (outer (inside t)) (a .kind) (a .mark)
@@ -63,14 +63,14 @@ module _ (stored : ℕ → Stored) (t : List Layer) (a : Step) where
       (λ g. refl) (λ e g. refl) (λ e g. refl) (λ d e f h g. rw h) (λ m w e f g. rw f) (λ e f g. rw f) (λ e f g. rw f) (λ e f g. rw f)
 
   -- a round that goes on is one round
-  pub turns-once : (u : List Layer) → goes stored t a (turnOf stored t a) ≡ given u → rounds (stepsOf a (turnOf stored t a)) ≡ 1
+  pub turns-once : (u : List Layer) → goes stored t a (turnAt t a) ≡ given u → rounds (stepsOf a (turnAt t a)) ≡ 1
   unfolding rounds
   turns-once u =
       cases (outer t) (outer (inside t)) (a .kind) (a .mark) (λ r. goes stored t a r ≡ given u → rounds (stepsOf a r) ≡ 1)
       (λ g. absurd (not-given 8 0 u g)) (λ e g. refl) (λ e g. refl) (λ d e f h g. refl) (λ m w e f g. refl) (λ e f g. refl) (λ e f g. refl) (λ e f g. rw f)
 
   -- the steps of a round are steps where the asked one is
-  pub steps-good : goodStep a ≡ true → goodSteps (stepsOf a (turnOf stored t a)) ≡ true
+  pub steps-good : goodStep a ≡ true → goodSteps (stepsOf a (turnAt t a)) ≡ true
   unfolding goodStep goodSteps
   steps-good =
       cases (outer t) (outer (inside t)) (a .kind) (a .mark) (λ r. goodStep a ≡ true → goodSteps (stepsOf a r) ≡ true)

@@ -20,7 +20,7 @@ use Rattle.steps.specs.Steps.{Step}
 use Rattle.layers.proofs.Given.{not-given, given-is}
 use Rattle.turns.proofs.Cases.{cases}
 use Rattle.walker.specs.Walker.{Stored, typed, absent}
-use Rattle.rounds.specs.Walk.{ended, goes, turnOf, memberType, walk}
+use Rattle.rounds.specs.Walk.{ended, goes, turnAt, memberType, walk}
 use Rattle.planner.proofs.Leads.{reached}
 use Rattle.rounds.proofs.Going.{one-in, two-in}
 use Rattle.planner.proofs.Walks.{every-walk}
@@ -91,7 +91,7 @@ module _ (stored : ℕ → Stored) (pass : (id : ℕ) (t : List Layer) → store
       by-stored absent g = absurd (not-given 11 0 u g)
       by-stored (typed t) g = by-form t (wellFormed t) refl g
 
-  goes-sound : (t : List Layer) (a : Step) (u : List Layer) → goes stored t a (turnOf stored t a) ≡ given u → Sound t → Sound u
+  goes-sound : (t : List Layer) (a : Step) (u : List Layer) → goes stored t a (turnAt t a) ≡ given u → Sound t → Sound u
   goes-sound t a u g s =
       cases (outer t) (outer (inside t)) (a .kind) (a .mark) (λ r. goes stored t a r ≡ given u → Sound u)
       (λ g. absurd (not-given 8 0 u g))

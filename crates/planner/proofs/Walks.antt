@@ -18,7 +18,7 @@ use Rattle.steps.specs.Steps.{Step, goodStep, goodSteps}
 use Rattle.steps.proofs.Words.{good-append}
 use Rattle.layers.proofs.Decide.{both}
 use Rattle.walker.specs.Walker.{Where, at, stuck, Stored, act, then, walker}
-use Rattle.rounds.specs.Walk.{Walk, ended, stopped, stepsOf, takenBy, goes, turnOf, prepend, onward, walk}
+use Rattle.rounds.specs.Walk.{Walk, ended, stopped, stepsOf, takenBy, goes, turnAt, prepend, onward, walk}
 use Rattle.turns.specs.Turn.{Turn, Stuck, Auto, Element, Desliced, Member}
 use Rattle.rounds.proofs.Turning.{took-few}
 use Rattle.planner.specs.Demand.{asked, unmarked, rounds}
@@ -68,15 +68,15 @@ module _ (stored : ℕ → Stored) where
       (out : (t : List Layer) (q : List Step) → P 0 t q [] 0 t)
       (done : (n : ℕ) (t : List Layer) → P (suc n) t [] [] 0 t)
       (more : (n : ℕ) (t : List Layer) (a : Step) (q : List Step) (u : List Layer) (us : List Step) (j : ℕ) (c : List Layer) →
-      goes stored t a (turnOf stored t a) ≡ given u → P n u (drop (takenBy (turnOf stored t a)) (a ∷ q)) us j c →
-      P (suc n) t (a ∷ q) (stepsOf a (turnOf stored t a) ++ us) (takenBy (turnOf stored t a) + j) c) where
+      goes stored t a (turnAt t a) ≡ given u → P n u (drop (takenBy (turnAt t a)) (a ∷ q)) us j c →
+      P (suc n) t (a ∷ q) (stepsOf a (turnAt t a) ++ us) (takenBy (turnAt t a) + j) c) where
     abbrev Holds : ℕ → List Layer → List Step → Walk → Type 0
     Holds n t q (ended ss k c) = P n t q ss k c
     Holds n t q (stopped number) = Unit {0}
 
     module _ (n : ℕ) (t : List Layer) (a : Step) (q : List Step) where
       abbrev r : Turn
-      r = turnOf stored t a
+      r = turnAt t a
 
       before : (u : List Layer) → goes stored t a r ≡ given u → (w : Walk) → Holds n u (drop (takenBy r) (a ∷ q)) w →
           Holds (suc n) t (a ∷ q) (prepend stored (stepsOf a r) (takenBy r) w)
@@ -94,8 +94,8 @@ module _ (stored : ℕ → Stored) where
     holds zero t q = out t q
     holds (suc n) t [] = done n t
     holds (suc n) t (a ∷ q) =
-        round n t a q (goes stored t a (turnOf stored t a)) refl (λ u. walk stored n u (drop (takenBy (turnOf stored t a)) (a ∷ q)))
-        (λ u. holds n u (drop (takenBy (turnOf stored t a)) (a ∷ q)))
+        round n t a q (goes stored t a (turnAt t a)) refl (λ u. walk stored n u (drop (takenBy (turnAt t a)) (a ∷ q)))
+        (λ u. holds n u (drop (takenBy (turnAt t a)) (a ∷ q)))
 
     pub every-walk : (n : ℕ) (t : List Layer) (q ss : List Step) (k : ℕ) (c : List Layer) → walk stored n t q ≡ ended ss k c → P n t q ss k c
     every-walk n t q ss k c e = subst (Holds n t q) e (holds n t q)
@@ -117,7 +117,7 @@ module _ (stored : ℕ → Stored) where
     unfolding walker
     walks =
         every-walk (λ n t q ss k c. walker stored ss t ≡ at c) (λ t q. refl) (λ n t. refl)
-        (λ n t a q u us j c g h. rw (walker-append (stepsOf a (turnOf stored t a)) us t, leads stored t a u g) h) n t q ss k c e
+        (λ n t a q u us j c g h. rw (walker-append (stepsOf a (turnAt t a)) us t, leads stored t a u g) h) n t q ss k c e
 
     -- "the element and member steps are, an element's endless mark aside, the asked ones in order from the first"
     pub in-order : asked ss ≡ map unmarked (take k q)
@@ -125,9 +125,9 @@ module _ (stored : ℕ → Stored) where
     in-order =
         every-walk (λ n t q ss k c. asked ss ≡ map unmarked (take k q)) (λ t q. refl) (λ n t. refl)
         (λ n t a q u us j c g h.
-        asked-append (stepsOf a (turnOf stored t a)) us
-        ∙ rw (takes stored t a q u g, h, take-add (takenBy (turnOf stored t a)) j (a ∷ q))
-        (sym (map-append unmarked (take (takenBy (turnOf stored t a)) (a ∷ q)) (take j (drop (takenBy (turnOf stored t a)) (a ∷ q))))))
+        asked-append (stepsOf a (turnAt t a)) us
+        ∙ rw (takes stored t a q u g, h, take-add (takenBy (turnAt t a)) j (a ∷ q))
+        (sym (map-append unmarked (take (takenBy (turnAt t a)) (a ∷ q)) (take j (drop (takenBy (turnAt t a)) (a ∷ q))))))
         n t q ss k c e
 
     -- "all of them unless the round limit stopped the walk"
@@ -137,9 +137,9 @@ module _ (stored : ℕ → Stored) where
         every-walk (λ n t q ss k c. (k ≡ length q) ⊎ (rounds ss ≡ n)) (λ t q. inr refl) (λ n t. inl refl)
         (λ n t a q u us j c g h.
         ⊎-elim
-        (λ (i : j ≡ length (drop (takenBy (turnOf stored t a)) (a ∷ q))).
-        inl (omega (arith, i, length-drop (takenBy (turnOf stored t a)) (a ∷ q), took-few (turnOf stored t a))))
-        (λ (i : rounds us ≡ n). inr (rounds-append (stepsOf a (turnOf stored t a)) us ∙ rw (turns-once stored t a u g, i) (omega arith))) h)
+        (λ (i : j ≡ length (drop (takenBy (turnAt t a)) (a ∷ q))).
+        inl (omega (arith, i, length-drop (takenBy (turnAt t a)) (a ∷ q), took-few (turnAt t a))))
+        (λ (i : rounds us ≡ n). inr (rounds-append (stepsOf a (turnAt t a)) us ∙ rw (turns-once stored t a u g, i) (omega arith))) h)
         n t q ss k c e
 
     -- a walk has no more rounds than allowed
@@ -147,13 +147,13 @@ module _ (stored : ℕ → Stored) where
     unfolding rounds
     no-longer =
         every-walk (λ n t q ss k c. rounds ss ≤ n) (λ t q. omega arith) (λ n t. omega arith)
-        (λ n t a q u us j c g h. omega (arith, h, rounds-append (stepsOf a (turnOf stored t a)) us, turns-once stored t a u g)) n t q ss k c e
+        (λ n t a q u us j c g h. omega (arith, h, rounds-append (stepsOf a (turnAt t a)) us, turns-once stored t a u g)) n t q ss k c e
 
     -- no more are counted as taken than were asked
     pub no-more : k ≤ length q
     no-more =
         every-walk (λ n t q ss k c. k ≤ length q) (λ t q. omega arith) (λ n t. omega arith)
-        (λ n t a q u us j c g h. omega (arith, h, length-drop (takenBy (turnOf stored t a)) (a ∷ q), took-few (turnOf stored t a))) n t q ss k c e
+        (λ n t a q u us j c g h. omega (arith, h, length-drop (takenBy (turnAt t a)) (a ∷ q), took-few (turnAt t a))) n t q ss k c e
 
     -- each step of a walk is one, where each asked one is
     pub all-good : goodSteps q ≡ true → goodSteps ss ≡ true
@@ -161,7 +161,7 @@ module _ (stored : ℕ → Stored) where
     all-good =
         every-walk (λ n t q ss k c. goodSteps q ≡ true → goodSteps ss ≡ true) (λ t q g. refl) (λ n t g. refl)
         (λ n t a q u us j c g h i.
-        good-append (stepsOf a (turnOf stored t a)) us ∙ rw (steps-good stored t a (good-first a q i), h (good-drop (takenBy (turnOf stored t a)) (a ∷ q) i)) refl)
+        good-append (stepsOf a (turnAt t a)) us ∙ rw (steps-good stored t a (good-first a q i), h (good-drop (takenBy (turnAt t a)) (a ∷ q) i)) refl)
         n t q ss k c e
 
     -- a walk has at most one step for each round, and one more for each asked one that it takes
@@ -169,4 +169,4 @@ module _ (stored : ℕ → Stored) where
     few-steps =
         every-walk (λ n t q ss k c. length ss ≤ n + k) (λ t q. omega arith) (λ n t. omega arith)
         (λ n t a q u us j c g h.
-        omega (arith, h, length-append (stepsOf a (turnOf stored t a)) us, one-or-two a (turnOf stored t a))) n t q ss k c e
+        omega (arith, h, length-append (stepsOf a (turnAt t a)) us, one-or-two a (turnAt t a))) n t q ss k c e

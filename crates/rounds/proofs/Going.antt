@@ -15,8 +15,9 @@ use Rattle.turns.specs.Turn.{Turn}
 use Rattle.turns.proofs.Cases.{cases}
 use Rattle.walker.specs.Walker.{Stored}
 use Rattle.walker.specs.Members.{ofLayers}
-use Rattle.rounds.specs.Walk.{goes, turnOf, memberType}
-use Rattle.rounds.specs.Round.{onto, memberRefusal, refusal}
+use Rattle.rounds.specs.Walk.{goes, turnAt, memberType}
+use Rattle.rounds.specs.Round.{onto}
+use Rattle.rounds.proofs.Refusing.{memberRefusal, refusal}
 
 -- the layers inside
 pub one-in : (t : List Layer) → drop 1 t ≡ inside t
@@ -55,7 +56,7 @@ module _ (member : ℕ → List ℕ) (ws : List ℕ) (a : Step) where
   inner-two : layers (drop 3 (drop 3 ws)) ≡ inside (inside (layers ws))
   inner-two = inner-layers (drop 3 ws) ∙ ap inside (inner-layers ws)
 
-  pub going : Goes (turnOf stored (layers ws) a)
+  pub going : Goes (turnAt (layers ws) a)
   unfolding onto refusal
   going =
       cases (outer (layers ws)) (outer (inside (layers ws))) (a .kind) (a .mark) Goes

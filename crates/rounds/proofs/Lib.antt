@@ -1,4 +1,5 @@
 -- What the proofs of several functions use.
+pub mod Refusing
 pub mod Pushing
 pub mod Adding
 pub mod Finishing

@@ -16,8 +16,9 @@ use Rattle.reports.specs.declared.report.Report.{Report}
 use Rattle.reports.specs.Plan.{Plan}
 use Rattle.reports.specs.Report.{notGiven, told, stepsOver, typeOver}
 use Rattle.reports.proofs.Delivering as outcome
-use Rattle.rounds.specs.Walk.{stepsOf, takenBy}
-use Rattle.rounds.specs.Round.{turnAt, onto, refusal}
+use Rattle.rounds.specs.Walk.{stepsOf, takenBy, turnAt}
+use Rattle.rounds.specs.Round.{onto}
+use Rattle.rounds.proofs.Refusing.{refusal}
 use Rattle.rounds.specs.Walked.{AllWhole, finished, walked}
 use Rattle.rounds.proofs.Pushing.{Pushed}
 use Rattle.rounds.proofs.Reading.{onto-whole}

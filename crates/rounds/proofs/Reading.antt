@@ -18,7 +18,9 @@ use Rattle.turns.specs.Turn as paper
 use Rattle.turns.specs.Turn.{ofTurn}
 use Rattle.turns.specs.declared.turn.Turn.{Turn}
 use Rattle.turns.specs.declared.turn.Turn.the-variants.{Stuck, Auto, Element, Desliced, Member}
-use Rattle.rounds.specs.Round.{turnAt, onto, refusal}
+use Rattle.rounds.specs.Walk.{turnAt}
+use Rattle.rounds.specs.Round.{onto}
+use Rattle.rounds.proofs.Refusing.{refusal}
 use Rattle.rounds.specs.Walked.{AllWhole}
 
 -- a word past the end

@@ -17,8 +17,9 @@ use Rattle.steps.proofs.Words.{stepAt, steps-none, steps-more, words-append, wo
 use Rattle.turns.specs.Turn.{Turn, Stuck, Auto, Element, Desliced, Member}
 use Rattle.walker.specs.Walker.{Stored}
 use Rattle.walker.specs.Members.{ofLayers}
-use Rattle.rounds.specs.Walk.{Walk, ended, stopped, stepsOf, takenBy, goes, turnOf, prepend, walk}
-use Rattle.rounds.specs.Round.{turnAt, onto, refusal}
+use Rattle.rounds.specs.Walk.{Walk, ended, stopped, stepsOf, takenBy, goes, turnAt, prepend, walk}
+use Rattle.rounds.specs.Round.{onto}
+use Rattle.rounds.proofs.Refusing.{refusal}
 use Rattle.rounds.proofs.Pushing.{Pushed}
 use Rattle.rounds.proofs.Going.{going}
 
@@ -67,12 +68,12 @@ module _ (stored : ℕ → Stored) where
   unfolding walk
   walk-out t q = refl
 
-  walk-more : (n : ℕ) (t : List Layer) (a : Step) (q : List Step) (u : List Layer) → goes stored t a (turnOf stored t a) ≡ given u →
-      walk stored (suc n) t (a ∷ q) ≡ prepend stored (stepsOf a (turnOf stored t a)) (takenBy (turnOf stored t a)) (walk stored n u (drop (takenBy (turnOf stored t a)) (a ∷ q)))
+  walk-more : (n : ℕ) (t : List Layer) (a : Step) (q : List Step) (u : List Layer) → goes stored t a (turnAt t a) ≡ given u →
+      walk stored (suc n) t (a ∷ q) ≡ prepend stored (stepsOf a (turnAt t a)) (takenBy (turnAt t a)) (walk stored n u (drop (takenBy (turnAt t a)) (a ∷ q)))
   unfolding walk
   walk-more n t a q u g = rw g refl
 
-  walk-stops : (n : ℕ) (t : List Layer) (a : Step) (q : List Step) (e p : ℕ) → goes stored t a (turnOf stored t a) ≡ refused e p → walk stored (suc n) t (a ∷ q) ≡ stopped e
+  walk-stops : (n : ℕ) (t : List Layer) (a : Step) (q : List Step) (e p : ℕ) → goes stored t a (turnAt t a) ≡ refused e p → walk stored (suc n) t (a ∷ q) ≡ stopped e
   unfolding walk
   walk-stops n t a q e p g = rw g refl
 
@@ -106,13 +107,13 @@ module _ (member : ℕ → List ℕ) where
       left : rounds - i ≡ suc (rounds - (i + 1))
       left = omega arith
 
-      goes-on : e ≡ 0 → goes stored (layers cur) (stepAt rest) (turnOf stored (layers cur) (stepAt rest)) ≡ given (layers next)
+      goes-on : e ≡ 0 → goes stored (layers cur) (stepAt rest) (turnAt (layers cur) (stepAt rest)) ≡ given (layers next)
       goes-on z = rw (f, is) (going member cur (stepAt rest) .0 (rw (f, is) at (sym g ∙ z)))
 
       pub stops : (e ≡ 0 → ⊥) → walk stored rounds (layers known) (steps asked) ≡ stopped e
       stops z =
-          let same : e ≡ refusal (turnOf stored (layers cur) (stepAt rest)) (layers (onto member cur (stepAt rest .handle) (turnOf stored (layers cur) (stepAt rest)))) = rw (f, is) at g in
-          let r : goes stored (layers cur) (stepAt rest) (turnOf stored (layers cur) (stepAt rest)) ≡ refused e 0 =
+          let same : e ≡ refusal (turnAt (layers cur) (stepAt rest)) (layers (onto member cur (stepAt rest .handle) (turnAt (layers cur) (stepAt rest)))) = rw (f, is) at g in
+          let r : goes stored (layers cur) (stepAt rest) (turnAt (layers cur) (stepAt rest)) ≡ refused e 0 =
           going member cur (stepAt rest) .1 (λ o. z (same ∙ o)) ∙ ap (λ (k : ℕ). refused k 0) (sym same) in
           rw (so .same, left, steps-more rest more, walk-stops stored (rounds - (i + 1)) (layers cur) (stepAt rest) (steps (drop 4 rest)) e 0 r) refl
 

@@ -37,6 +37,10 @@ abbrev pub memberType : Stored → Answer (List Layer)
 memberType absent = refused 11 0
 memberType (typed t) = cond (wellFormed t) (given t) (refused 4 0)
 
+-- What a round decides of the current type and the first asked step.
+abbrev pub turnAt : List Layer → Step → Turn
+turnAt t a = turn (outer t) (outer (inside t)) (a .kind) (a .mark)
+
 module _ (stored : ℕ → Stored) where
   -- Where a round goes on.
   abbrev pub goes : List Layer → Step → Turn → Answer (List Layer)
@@ -45,9 +49,6 @@ module _ (stored : ℕ → Stored) where
   goes t a (Element m l) = given (drop l t)
   goes t a (Desliced m) = given (inside t)
   goes t a Member = memberType (stored (a .handle))
-
-  abbrev pub turnOf : List Layer → Step → Turn
-  turnOf t a = turn (outer t) (outer (inside t)) (a .kind) (a .mark)
 
   abbrev pub prepend : List Step → ℕ → Walk → Walk
   prepend ss k (ended us j c) = ended (ss ++ us) (k + j) c
@@ -63,5 +64,5 @@ module _ (stored : ℕ → Stored) where
   walk zero t q = ended [] 0 t
   walk (suc n) t [] = ended [] 0 t
   walk (suc n) t (a ∷ q) =
-      let r = turnOf t a in
+      let r = turnAt t a in
       onward (stepsOf a r) (takenBy r) (goes t a r) (λ u. walk n u (drop (takenBy r) (a ∷ q)))

@@ -14,7 +14,7 @@ ghost use Rattle.steps.specs.Steps.{stepWords};
 ghost use Rattle.steps.proofs.Words.{stepAt};
 ghost use Rattle.turns.specs.Turn.{ofTurn};
 ghost use Rattle.walker.specs.Members.{memberIn};
-ghost use Rattle.rounds.specs.Walk.{stepsOf, takenBy};
+ghost use Rattle.rounds.specs.Walk.{stepsOf, takenBy, turnAt};
 ghost use Rattle.rounds.specs.Round as rounds;
 
 // The word at i, 0 past the end.
@@ -26,7 +26,7 @@ fn word(q: &[u64], i: usize) -> u64
 
 // What a round decides of the current type and the first of the asked steps.
 pub(crate) fn turn_at(cur: &[u64], q: &[u64]) -> Turn
-    ensures { λ r. ⌜ ofTurn r ≡ rounds.turnAt (layers (now (cur .entry))) (stepAt (now (q .entry))) ⌝ }
+    ensures { λ r. ⌜ ofTurn r ≡ turnAt (layers (now (cur .entry))) (stepAt (now (q .entry))) ⌝ }
 {
     turn_of(outer(cur), outer(inner(cur)), word(q, 0), word(q, 2))
 }
