@@ -1,6 +1,6 @@
 // Reads a sheet from standard input and prints how each ordered pair of its types stands to one another. All that it prints is
-// made by `lines::pairs_text`; here bytes are only moved.
-use lines::pairs_text;
+// made by `sheet_pairs::pairs_text`; here bytes are only moved.
+use sheet_pairs::pairs_text;
 ghost use mathlib.Core.Path.{_≡_};
 ghost use lib.ListN.{length};
 

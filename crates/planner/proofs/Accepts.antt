@@ -9,24 +9,24 @@ use native.Mathlib.Omega.{arith}
 use lib.Dec.{ltb}
 use lib.ListN.{length, take}
 use borrow.Author.Tests.{eq-eqb, le-leb, le-ltb, lt-ltb, ltb-true, ltb-false}
-use Rattle.layers.specs.Layers.{Layer, layers, spelled}
-use Rattle.layers.specs.Answer.{given}
-use Rattle.layers.proofs.Spelling.{spelled-length, layers-spelled}
-use Rattle.buffers.specs.Written.{written}
-use Rattle.outputs.specs.Outcome as outcome
-use Rattle.outputs.specs.Outcome.{answerIn, bufferIn}
-use Rattle.columns.specs.declared.symbol.Symbol.{Symbol}
-use Rattle.answers.specs.declared.flat.Answer.{Answer}
-use Rattle.answers.specs.Flat.{accepted, notAccepted, flat}
-use Rattle.steps.specs.Steps.{steps, stepsAnswer}
-use Rattle.steps.proofs.Words.{words-length}
-use Rattle.walker.specs.Walker.{at, Stored, arrives}
-use Rattle.walker.specs.Members.{members}
-use Rattle.walks.specs.Walked.{walkTo}
-use Rattle.walks.proofs.Theorems.{arrives-walk}
-use Rattle.reports.specs.declared.report.Report.{Report}
-use Rattle.reports.specs.Plan.{Plan}
-use Rattle.reports.specs.Report.{told, stepsOver, typeOver, planRead}
+use Rattle.type_layers.specs.Layers.{Layer, layers, spelled}
+use Rattle.type_layers.specs.Answer.{given}
+use Rattle.type_layers.proofs.Spelling.{spelled-length, layers-spelled}
+use Rattle.write_words.specs.Written.{written}
+use Rattle.write_type.specs.Outcome as outcome
+use Rattle.write_type.specs.Outcome.{answerIn, bufferIn}
+use Rattle.symbol_columns.specs.declared.symbol.Symbol.{Symbol}
+use Rattle.write_answer.specs.declared.answer.Answer.{Answer}
+use Rattle.write_answer.specs.Flat.{accepted, notAccepted, flat}
+use Rattle.plan_steps.specs.Steps.{steps, stepsAnswer}
+use Rattle.plan_steps.proofs.Words.{words-length}
+use Rattle.walker_rule.specs.Walker.{at, Stored, arrives}
+use Rattle.walker_rule.specs.Members.{members}
+use Rattle.walker_run.specs.Walked.{walkTo}
+use Rattle.walker_run.proofs.Theorems.{arrives-walk}
+use Rattle.plan_report.specs.declared.report.Report.{Report}
+use Rattle.plan_report.specs.Plan.{Plan}
+use Rattle.plan_report.specs.Report.{told, stepsOver, typeOver, planRead}
 use Rattle.planner.specs.Answers.{planAnswer}
 use Rattle.planner.specs.Demand.{Hidden, Demand}
 use Rattle.planner.specs.Accepts.{Agrees, Accepts}

@@ -6,26 +6,26 @@ use mathlib.Core.List.{List, [], _∷_}
 use Prim.Native.Nat.{ℕ, zero, suc, _+_, _/_, _%_}
 use lib.Dec.{eqb, leb, ltb}
 use lib.ListN.{length, drop}
-use Rattle.kinds.specs.Kind as kind
-use Rattle.layers.specs.Layers.{Layer, layers, outer}
-use Rattle.layers.specs.Answer.{Answer, given, nothing, refused, next}
-use Rattle.checks.specs.Check.{Place, at, nowhere, badCount, badLayer, misplaced, unless, checkOf}
-use Rattle.forms.specs.Formed.{wellFormed}
-use Rattle.sizes.specs.Depth.{pointerDepth}
-use Rattle.columns.specs.declared.symbol.Symbol.{Symbol}
-use Rattle.orders.specs.Order.{inOrder}
-use Rattle.steps.specs.Steps.{Step, steps, goodSteps, stepWords, stepsAnswer}
-use Rattle.turns.specs.Turn.{Turn, Stuck, Auto, Element, Desliced, Member}
-use Rattle.settlings.specs.Line as line
-use Rattle.settlings.specs.Line.{Line}
-use Rattle.settlings.specs.Settling.{Settled, settleOtherwise, lineOf, settleBy, settle}
-use Rattle.walker.specs.Walker.{Stored, typed, absent}
-use Rattle.walker.specs.Members.{members}
-use Rattle.rounds.specs.Walk.{Walk, ended, stopped, stepsOf, takenBy, memberType, goes, turnAt, onward, walk}
-use Rattle.reports.specs.Plan.{Plan}
-use Rattle.rounds.specs.Walked.{withSettling, settleWalk}
+use Rattle.type_numbers.specs.Kind as kind
+use Rattle.type_layers.specs.Layers.{Layer, layers, outer}
+use Rattle.type_layers.specs.Answer.{Answer, given, nothing, refused, next}
+use Rattle.type_checks.specs.Check.{Place, at, nowhere, badCount, badLayer, misplaced, unless, checkOf}
+use Rattle.type_wellformed.specs.Formed.{wellFormed}
+use Rattle.type_size_and_depth.specs.Depth.{pointerDepth}
+use Rattle.symbol_columns.specs.declared.symbol.Symbol.{Symbol}
+use Rattle.symbol_order.specs.Order.{inOrder}
+use Rattle.plan_steps.specs.Steps.{Step, steps, goodSteps, stepWords, stepsAnswer}
+use Rattle.plan_turn.specs.Turn.{Turn, Stuck, Auto, Element, Desliced, Member}
+use Rattle.plan_settling.specs.Line as line
+use Rattle.plan_settling.specs.Line.{Line}
+use Rattle.plan_settling.specs.Settling.{Settled, settleOtherwise, lineOf, settleBy, settle}
+use Rattle.walker_rule.specs.Walker.{Stored, typed, absent}
+use Rattle.walker_rule.specs.Members.{members}
+use Rattle.plan_rounds.specs.Walk.{Walk, ended, stopped, stepsOf, takenBy, memberType, goes, turnAt, onward, walk}
+use Rattle.plan_report.specs.Plan.{Plan}
+use Rattle.plan_rounds.specs.Walked.{withSettling, settleWalk}
 use Rattle.planner.specs.Plan.{planOf}
-use Rattle.reports.specs.Report.{delivered, told}
+use Rattle.plan_report.specs.Report.{delivered, told}
 use Rattle.planner.specs.Answers.{question, planned, planAnswer}
 
 abbrev tells : {A : Type 0} → Answer A → Bool

@@ -9,24 +9,24 @@ use native.Mathlib.Omega.{arith}
 use lib.Dec.{eqb}
 use lib.ListN.{length, length-append}
 use borrow.Author.Tests.{eqb-true}
-use Rattle.kinds.specs.Kind as kind
-use Rattle.layers.specs.Layers.{Layer, outer, inside}
-use Rattle.layers.specs.Answer.{given}
-use Rattle.layers.proofs.Decide.{both}
-use Rattle.checks.specs.Check.{goodLayer}
-use Rattle.checks.proofs.Accepted.{goodLayers}
-use Rattle.forms.specs.Formed.{wellFormed}
-use Rattle.equalities.specs.Equalities.{identical}
-use Rattle.equalities.proofs.Theorems.{identical-equal}
-use Rattle.steps.specs.Steps.{Step, goodSteps}
-use Rattle.steps.proofs.Words.{good-append}
-use Rattle.settlings.specs.Settling.{Settled, pointer, settle}
-use Rattle.settlings.proofs.Lines.{lines}
-use Rattle.walker.specs.Walker.{at, Stored, typed, walker, arrives}
-use Rattle.walker.proofs.Where.{at-is}
-use Rattle.rounds.specs.Walk.{ended, walk}
-use Rattle.rounds.proofs.Finishing.{depth-few}
-use Rattle.reports.specs.Plan.{Plan}
+use Rattle.type_numbers.specs.Kind as kind
+use Rattle.type_layers.specs.Layers.{Layer, outer, inside}
+use Rattle.type_layers.specs.Answer.{given}
+use Rattle.type_layers.proofs.Decide.{both}
+use Rattle.type_checks.specs.Check.{goodLayer}
+use Rattle.type_checks.proofs.Accepted.{goodLayers}
+use Rattle.type_wellformed.specs.Formed.{wellFormed}
+use Rattle.relation_equals.specs.Equalities.{identical}
+use Rattle.relation_equals.proofs.Theorems.{identical-equal}
+use Rattle.plan_steps.specs.Steps.{Step, goodSteps}
+use Rattle.plan_steps.proofs.Words.{good-append}
+use Rattle.plan_settling.specs.Settling.{Settled, pointer, settle}
+use Rattle.plan_settling.proofs.Lines.{lines}
+use Rattle.walker_rule.specs.Walker.{at, Stored, typed, walker, arrives}
+use Rattle.walker_rule.proofs.Where.{at-is}
+use Rattle.plan_rounds.specs.Walk.{ended, walk}
+use Rattle.plan_rounds.proofs.Finishing.{depth-few}
+use Rattle.plan_report.specs.Plan.{Plan}
 use Rattle.planner.specs.Plan.{planOf}
 use Rattle.planner.specs.Demand.{Exception, Hidden, Demand}
 use Rattle.planner.specs.Reported.{Reported}

@@ -8,30 +8,30 @@ use native.Mathlib.Omega.{arith}
 use lib.Dec.{ltb}
 use lib.ListN.{length}
 use borrow.Author.Tests.{lt-ltb, le-ltb, ltb-false, not-true, not-false}
-use Rattle.layers.specs.Layers.{layers, Whole}
-use Rattle.layers.specs.Answer.{Answer, given, refused, next, ofChecked}
-use Rattle.checks.specs.Check.{Place, at, nowhere, badCount, badLayer, misplaced, unless, checkOf}
-use Rattle.layers.specs.declared.answers.Checked.{Checked}
-use Rattle.layers.specs.declared.answers.Checked.the-variants.{Good, Refused}
-use Rattle.layers.proofs.Given.{not-given}
-use Rattle.checks.proofs.Accepted.{accepted-whole}
-use Rattle.forms.specs.Formed.{wellFormed}
-use Rattle.columns.specs.declared.symbol.Symbol.{Symbol}
-use Rattle.columns.specs.Rows.{readFrom}
-use Rattle.tables.specs.Gathered.{gathered}
-use Rattle.orders.specs.Order.{inOrder}
-use Rattle.columns.proofs.Reading.{length-read}
-use Rattle.tables.proofs.Gathering.{swapped}
-use Rattle.orders.proofs.Ordered.{ordered, too-long}
-use Rattle.steps.specs.Steps.{stepsAnswer}
-use Rattle.walker.specs.Members.{memberIn, ofLayers, members}
-use Rattle.walker.proofs.Storing.{at-most, member-whole}
-use Rattle.reports.specs.Plan.{Plan}
+use Rattle.type_layers.specs.Layers.{layers, Whole}
+use Rattle.type_layers.specs.Answer.{Answer, given, refused, next, ofChecked}
+use Rattle.type_checks.specs.Check.{Place, at, nowhere, badCount, badLayer, misplaced, unless, checkOf}
+use Rattle.type_layers.specs.declared.answers.Checked.{Checked}
+use Rattle.type_layers.specs.declared.answers.Checked.the-variants.{Good, Refused}
+use Rattle.type_layers.proofs.Given.{not-given}
+use Rattle.type_checks.proofs.Accepted.{accepted-whole}
+use Rattle.type_wellformed.specs.Formed.{wellFormed}
+use Rattle.symbol_columns.specs.declared.symbol.Symbol.{Symbol}
+use Rattle.symbol_columns.specs.Rows.{readFrom}
+use Rattle.symbol_lent.specs.Gathered.{gathered}
+use Rattle.symbol_order.specs.Order.{inOrder}
+use Rattle.symbol_columns.proofs.Reading.{length-read}
+use Rattle.symbol_lent.proofs.Gathering.{swapped}
+use Rattle.symbol_order.proofs.Ordered.{ordered, too-long}
+use Rattle.plan_steps.specs.Steps.{stepsAnswer}
+use Rattle.walker_rule.specs.Members.{memberIn, ofLayers, members}
+use Rattle.walker_rule.proofs.Storing.{at-most, member-whole}
+use Rattle.plan_report.specs.Plan.{Plan}
 use Rattle.planner.specs.Plan.{planOf}
-use Rattle.reports.specs.Report.{delivered, notGiven, told, stepsOver, typeOver}
-use Rattle.reports.specs.declared.report.Report.{Report}
-use Rattle.reports.proofs.Delivering.{told-refused, steps-stay, type-stays}
-use Rattle.rounds.specs.Walked.{AllWhole, walked}
+use Rattle.plan_report.specs.Report.{delivered, notGiven, told, stepsOver, typeOver}
+use Rattle.plan_report.specs.declared.report.Report.{Report}
+use Rattle.plan_report.proofs.Delivering.{told-refused, steps-stay, type-stays}
+use Rattle.plan_rounds.specs.Walked.{AllWhole, walked}
 use Rattle.planner.specs.Answers.{limits, question, planned, planAnswer}
 
 -- the limits

@@ -20,41 +20,41 @@ use contract.Lifetimes.{Lfts}
 use contract.Monad.{Fun, fact}
 use denote.Ref.{now}
 use denote.Triple.Entry.{Args}
-use Rattle.layers.specs.Layers.{Layer, layers, spelled}
-use Rattle.layers.specs.Answer.{Answer, given, nothing, refused, next, isGiven}
-use Rattle.checks.specs.Check.{checkOf}
-use Rattle.layers.proofs.Decide.{both}
-use Rattle.layers.proofs.Given.{not-given, nothing-given, given-is}
-use Rattle.checks.proofs.Accepted.{goodLayers, accepted-whole, accepted-good}
-use Rattle.checks.proofs.Refusals.{next-next}
-use Rattle.layers.proofs.Spelling.{spelled-length, layers-spelled}
-use Rattle.buffers.specs.Written.{written}
-use Rattle.buffers.proofs.Writing.{fits}
-use Rattle.columns.specs.declared.symbol.Symbol.{Symbol}
-use Rattle.columns.specs.Rows as rows
-use Rattle.columns.specs.Rows.{vacant}
-use Rattle.columns.specs.Stored.{slotWords, storedWords}
-use Rattle.searches.specs.Search.{slotFor}
-use Rattle.orders.specs.Order.{inOrder}
-use Rattle.steps.specs.Steps.{steps, stepWords, goodSteps, stepsAnswer}
-use Rattle.steps.proofs.Words.{words-length, words-back, words-whole}
-use Rattle.walker.specs.Walker.{Stored, typed, absent}
-use Rattle.walker.specs.Members.{ofLayers, members, memberWords}
-use Rattle.walker.proofs.Storing.{stored-good, member-whole}
-use Rattle.rounds.proofs.Finishing.{whole-few}
-use Rattle.reports.specs.declared.report.Report.{Report}
-use Rattle.reports.specs.Plan.{Plan}
+use Rattle.type_layers.specs.Layers.{Layer, layers, spelled}
+use Rattle.type_layers.specs.Answer.{Answer, given, nothing, refused, next, isGiven}
+use Rattle.type_checks.specs.Check.{checkOf}
+use Rattle.type_layers.proofs.Decide.{both}
+use Rattle.type_layers.proofs.Given.{not-given, nothing-given, given-is}
+use Rattle.type_checks.proofs.Accepted.{goodLayers, accepted-whole, accepted-good}
+use Rattle.type_checks.proofs.Refusals.{next-next}
+use Rattle.type_layers.proofs.Spelling.{spelled-length, layers-spelled}
+use Rattle.write_words.specs.Written.{written}
+use Rattle.write_words.proofs.Writing.{fits}
+use Rattle.symbol_columns.specs.declared.symbol.Symbol.{Symbol}
+use Rattle.symbol_columns.specs.Rows as rows
+use Rattle.symbol_columns.specs.Rows.{vacant}
+use Rattle.symbol_columns.specs.Stored.{slotWords, storedWords}
+use Rattle.symbol_search.specs.Search.{slotFor}
+use Rattle.symbol_order.specs.Order.{inOrder}
+use Rattle.plan_steps.specs.Steps.{steps, stepWords, goodSteps, stepsAnswer}
+use Rattle.plan_steps.proofs.Words.{words-length, words-back, words-whole}
+use Rattle.walker_rule.specs.Walker.{Stored, typed, absent}
+use Rattle.walker_rule.specs.Members.{ofLayers, members, memberWords}
+use Rattle.walker_rule.proofs.Storing.{stored-good, member-whole}
+use Rattle.plan_rounds.proofs.Finishing.{whole-few}
+use Rattle.plan_report.specs.declared.report.Report.{Report}
+use Rattle.plan_report.specs.Plan.{Plan}
 use Rattle.planner.specs.Plan.{planOf}
-use Rattle.reports.specs.Report.{delivered, told, stepsOver, typeOver, planRead}
+use Rattle.plan_report.specs.Report.{delivered, told, stepsOver, typeOver, planRead}
 use Rattle.planner.specs.Answers.{limits, planned, planAnswer}
 use Rattle.planner.specs.Demand.{Demand}
 use Rattle.planner.specs.Reported.{Reported}
-use Rattle.reports.proofs.Delivering.{second-fits}
+use Rattle.plan_report.proofs.Delivering.{second-fits}
 use Rattle.planner.proofs.Asking.{passed}
 use Rattle.planner.proofs.Sound.{Passing}
 use Rattle.planner.proofs.Arrives.{demand, reported}
 use Rattle.planner.proofs.Answered.{not-refused}
-use Rattle.planner.proofs.entry.autoderef as autoderef
+use Rattle.planner.proofs.lent_table.autoderef as autoderef
 
 -- the layers of every member of a table in order are good
 good-words : (ws : List ℕ) (x : Answer ℕ) → checkOf ws ≡ x → isGiven x ≡ true → goodLayers (layers ws) ≡ true

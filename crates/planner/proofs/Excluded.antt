@@ -11,22 +11,22 @@ use native.Mathlib.Omega.{arith}
 use lib.Dec.{eqb, leb}
 use lib.ListN.{length, drop, length-drop}
 use borrow.Author.Tests.{eqb-true, leb-true}
-use Rattle.kinds.specs.Kind as kind
-use Rattle.layers.specs.Layers.{Layer, layer, outer, inside}
-use Rattle.layers.specs.Answer.{given}
-use Rattle.parts.specs.Parts.{references}
-use Rattle.sizes.specs.Depth.{pointerDepth}
-use Rattle.equalities.specs.Equalities.{identical, plain, equals}
-use Rattle.coercions.specs.Coercions.{coerces, addressCoerces}
-use Rattle.steps.specs.StepKind as of-step
-use Rattle.steps.specs.Steps.{Step, step, goodStep, goodSteps}
-use Rattle.settlings.specs.Line as line
-use Rattle.settlings.specs.Line.{Line}
-use Rattle.settlings.specs.Settling.{Settled, settleOtherwise, lineOf}
-use Rattle.settlings.proofs.Lines.{seventh}
-use Rattle.walker.specs.Walker.{Where, at, stuck, Stored, typed, absent, act, walker, arrives}
-use Rattle.walker.proofs.Where.{typeAt}
-use Rattle.reports.specs.Plan.{Plan}
+use Rattle.type_numbers.specs.Kind as kind
+use Rattle.type_layers.specs.Layers.{Layer, layer, outer, inside}
+use Rattle.type_layers.specs.Answer.{given}
+use Rattle.type_parts.specs.Parts.{references}
+use Rattle.type_size_and_depth.specs.Depth.{pointerDepth}
+use Rattle.relation_equals.specs.Equalities.{identical, plain, equals}
+use Rattle.relation_coerces.specs.Coercions.{coerces, addressCoerces}
+use Rattle.plan_steps.specs.StepKind as of-step
+use Rattle.plan_steps.specs.Steps.{Step, step, goodStep, goodSteps}
+use Rattle.plan_settling.specs.Line as line
+use Rattle.plan_settling.specs.Line.{Line}
+use Rattle.plan_settling.specs.Settling.{Settled, settleOtherwise, lineOf}
+use Rattle.plan_settling.proofs.Lines.{seventh}
+use Rattle.walker_rule.specs.Walker.{Where, at, stuck, Stored, typed, absent, act, walker, arrives}
+use Rattle.walker_rule.proofs.Where.{typeAt}
+use Rattle.plan_report.specs.Plan.{Plan}
 use Rattle.planner.specs.Demand.{unmarked, asked, rounds, Hidden, Demand}
 use Rattle.planner.specs.Reported.{Reported}
 use Rattle.planner.proofs.Walks.{asked-append}

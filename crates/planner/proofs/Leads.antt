@@ -7,18 +7,18 @@ use mathlib.Core.List.{List, _∷_, map}
 use Prim.Native.Nat.{ℕ}
 use lib.Dec.{eqb, leb}
 use lib.ListN.{take, drop}
-use Rattle.layers.specs.Layers.{Layer, outer, inside}
-use Rattle.layers.specs.Answer.{given, refused}
-use Rattle.forms.specs.Formed.{wellFormed}
-use Rattle.steps.specs.StepKind as of-step
-use Rattle.steps.specs.Steps.{Step, isHandle, goodStep, goodSteps}
-use Rattle.turns.specs.Turn.{Turn}
-use Rattle.layers.proofs.Decide.{both}
-use Rattle.layers.proofs.Given.{not-given, given-is}
-use Rattle.turns.proofs.Cases.{cases}
-use Rattle.walker.specs.Walker.{at, Stored, typed, absent, act, walker}
-use Rattle.rounds.proofs.Going.{one-in, two-in}
-use Rattle.rounds.specs.Walk.{stepsOf, takenBy, memberType, goes, turnAt}
+use Rattle.type_layers.specs.Layers.{Layer, outer, inside}
+use Rattle.type_layers.specs.Answer.{given, refused}
+use Rattle.type_wellformed.specs.Formed.{wellFormed}
+use Rattle.plan_steps.specs.StepKind as of-step
+use Rattle.plan_steps.specs.Steps.{Step, isHandle, goodStep, goodSteps}
+use Rattle.plan_turn.specs.Turn.{Turn}
+use Rattle.type_layers.proofs.Decide.{both}
+use Rattle.type_layers.proofs.Given.{not-given, given-is}
+use Rattle.plan_turn.proofs.Cases.{cases}
+use Rattle.walker_rule.specs.Walker.{at, Stored, typed, absent, act, walker}
+use Rattle.plan_rounds.proofs.Going.{one-in, two-in}
+use Rattle.plan_rounds.specs.Walk.{stepsOf, takenBy, memberType, goes, turnAt}
 use Rattle.planner.specs.Demand.{asked, unmarked, rounds}
 
 pub reached : (m : Stored) (u : List Layer) → memberType m ≡ given u → m ≡ typed u

@@ -7,16 +7,16 @@ use Prim.Native.Nat.{ℕ, _≤_}
 use lib.Dec.{ltb}
 use lib.ListN.{length}
 use borrow.Author.Tests.{ltb-false}
-use Rattle.layers.specs.Layers.{Layer}
-use Rattle.layers.specs.Answer.{Answer, given, nothing, refused}
-use Rattle.layers.proofs.Given.{not-given, nothing-given, given-is}
-use Rattle.forms.specs.Formed.{wellFormed}
-use Rattle.steps.specs.Steps.{Step}
-use Rattle.settlings.specs.Settling.{Settled, settle}
-use Rattle.walker.specs.Walker.{Stored}
-use Rattle.rounds.specs.Walk.{Walk, ended, stopped, walk}
-use Rattle.rounds.specs.Walked.{withSettling, settleWalk}
-use Rattle.reports.specs.Plan.{Plan}
+use Rattle.type_layers.specs.Layers.{Layer}
+use Rattle.type_layers.specs.Answer.{Answer, given, nothing, refused}
+use Rattle.type_layers.proofs.Given.{not-given, nothing-given, given-is}
+use Rattle.type_wellformed.specs.Formed.{wellFormed}
+use Rattle.plan_steps.specs.Steps.{Step}
+use Rattle.plan_settling.specs.Settling.{Settled, settle}
+use Rattle.walker_rule.specs.Walker.{Stored}
+use Rattle.plan_rounds.specs.Walk.{Walk, ended, stopped, walk}
+use Rattle.plan_rounds.specs.Walked.{withSettling, settleWalk}
+use Rattle.plan_report.specs.Plan.{Plan}
 use Rattle.planner.specs.Plan.{planOf}
 
 -- the plan of a walk's steps and a settling

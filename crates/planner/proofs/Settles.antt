@@ -11,24 +11,24 @@ use native.Mathlib.Omega.{arith}
 use lib.Dec.{eqb}
 use lib.ListN.{length, drop, replicate, length-replicate}
 use borrow.Author.Tests.{eqb-true, eq-eqb}
-use Rattle.kinds.specs.Kind as kind
-use Rattle.layers.specs.Layers.{Layer, layer, outer, inside}
-use Rattle.layers.specs.Answer.{given}
-use Rattle.checks.specs.Check.{goodLayer}
-use Rattle.parts.specs.Parts.{references}
-use Rattle.sizes.specs.Depth.{pointerDepth}
-use Rattle.forms.specs.Formed.{inner, wellFormed}
-use Rattle.equalities.proofs.Theorems.{identical-equal}
-use Rattle.layers.proofs.Decide.{both}
-use Rattle.steps.specs.StepKind as of-step
-use Rattle.steps.specs.Steps.{Step, step, goodStep, goodSteps}
-use Rattle.settlings.specs.Line as line
-use Rattle.settlings.specs.Settling.{Settled, settled, pointer, dereferenced, settleOtherwise, lineOf, settleBy, settle}
-use Rattle.settlings.proofs.Lines.{lines, seventh}
-use Rattle.walker.specs.Walker.{at, Stored, act, walker, arrives}
-use Rattle.walker.proofs.Where.{at-is}
+use Rattle.type_numbers.specs.Kind as kind
+use Rattle.type_layers.specs.Layers.{Layer, layer, outer, inside}
+use Rattle.type_layers.specs.Answer.{given}
+use Rattle.type_checks.specs.Check.{goodLayer}
+use Rattle.type_parts.specs.Parts.{references}
+use Rattle.type_size_and_depth.specs.Depth.{pointerDepth}
+use Rattle.type_wellformed.specs.Formed.{inner, wellFormed}
+use Rattle.relation_equals.proofs.Theorems.{identical-equal}
+use Rattle.type_layers.proofs.Decide.{both}
+use Rattle.plan_steps.specs.StepKind as of-step
+use Rattle.plan_steps.specs.Steps.{Step, step, goodStep, goodSteps}
+use Rattle.plan_settling.specs.Line as line
+use Rattle.plan_settling.specs.Settling.{Settled, settled, pointer, dereferenced, settleOtherwise, lineOf, settleBy, settle}
+use Rattle.plan_settling.proofs.Lines.{lines, seventh}
+use Rattle.walker_rule.specs.Walker.{at, Stored, act, walker, arrives}
+use Rattle.walker_rule.proofs.Where.{at-is}
 use Rattle.planner.specs.Demand.{asked}
-use Rattle.checks.proofs.Accepted.{goodLayers}
+use Rattle.type_checks.proofs.Accepted.{goodLayers}
 use Rattle.planner.proofs.Sound.{Sound, inner-of}
 
 -- a good layer of the kind Pointer is a Pointer

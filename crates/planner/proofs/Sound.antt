@@ -9,20 +9,20 @@ use native.Mathlib.Omega.{arith}
 use lib.Dec.{eqb}
 use lib.ListN.{length, drop}
 use borrow.Author.Tests.{eqb-true}
-use Rattle.kinds.specs.Kind as kind
-use Rattle.layers.specs.Layers.{Layer, outer, inside, isArray, isSlice, isReference, holdsInner}
-use Rattle.layers.specs.Answer.{given, refused}
-use Rattle.checks.specs.Check.{goodLayer}
-use Rattle.checks.proofs.Accepted.{goodLayers}
-use Rattle.layers.proofs.Decide.{both}
-use Rattle.forms.specs.Formed.{inner, element, wellFormed}
-use Rattle.steps.specs.Steps.{Step}
-use Rattle.layers.proofs.Given.{not-given, given-is}
-use Rattle.turns.proofs.Cases.{cases}
-use Rattle.walker.specs.Walker.{Stored, typed, absent}
-use Rattle.rounds.specs.Walk.{ended, goes, turnAt, memberType, walk}
+use Rattle.type_numbers.specs.Kind as kind
+use Rattle.type_layers.specs.Layers.{Layer, outer, inside, isArray, isSlice, isReference, holdsInner}
+use Rattle.type_layers.specs.Answer.{given, refused}
+use Rattle.type_checks.specs.Check.{goodLayer}
+use Rattle.type_checks.proofs.Accepted.{goodLayers}
+use Rattle.type_layers.proofs.Decide.{both}
+use Rattle.type_wellformed.specs.Formed.{inner, element, wellFormed}
+use Rattle.plan_steps.specs.Steps.{Step}
+use Rattle.type_layers.proofs.Given.{not-given, given-is}
+use Rattle.plan_turn.proofs.Cases.{cases}
+use Rattle.walker_rule.specs.Walker.{Stored, typed, absent}
+use Rattle.plan_rounds.specs.Walk.{ended, goes, turnAt, memberType, walk}
 use Rattle.planner.proofs.Leads.{reached}
-use Rattle.rounds.proofs.Going.{one-in, two-in}
+use Rattle.plan_rounds.proofs.Going.{one-in, two-in}
 use Rattle.planner.proofs.Walks.{every-walk}
 
 -- a type of good layers, at most 16

@@ -5,21 +5,21 @@ use mathlib.Core.Bool.{true, false}
 use mathlib.Core.List.{List, [], _∷_, _++_}
 use Prim.Native.Nat.{ℕ}
 use lib.ListN.{replicate}
-use Rattle.kinds.specs.Kind as kind
-use Rattle.layers.specs.Layers.{Layer, layer, outer, inside}
-use Rattle.layers.specs.Answer.{Answer, given, nothing, refused}
-use Rattle.parts.specs.Parts.{references}
-use Rattle.sizes.specs.Depth.{pointerDepth}
-use Rattle.forms.specs.Formed.{inner, element, wellFormed}
-use Rattle.equalities.specs.Equalities.{identical, plain, equals}
-use Rattle.coercions.specs.Coercions.{coerces, addressCoerces, viewAutoderefs, autoderefs}
-use Rattle.turns.specs.Turns.{turn}
-use Rattle.steps.specs.StepKind as of-step
-use Rattle.steps.specs.Steps.{step}
-use Rattle.settlings.specs.Settling.{pointer, settleOtherwise, lineOf, settleBy, settle}
-use Rattle.rounds.specs.Walk.{walk}
-use Rattle.walker.specs.Walker.{typed, absent, walker}
-use Rattle.reports.specs.Plan.{Plan}
+use Rattle.type_numbers.specs.Kind as kind
+use Rattle.type_layers.specs.Layers.{Layer, layer, outer, inside}
+use Rattle.type_layers.specs.Answer.{Answer, given, nothing, refused}
+use Rattle.type_parts.specs.Parts.{references}
+use Rattle.type_size_and_depth.specs.Depth.{pointerDepth}
+use Rattle.type_wellformed.specs.Formed.{inner, element, wellFormed}
+use Rattle.relation_equals.specs.Equalities.{identical, plain, equals}
+use Rattle.relation_coerces.specs.Coercions.{coerces, addressCoerces, viewAutoderefs, autoderefs}
+use Rattle.plan_turn.specs.Turns.{turn}
+use Rattle.plan_steps.specs.StepKind as of-step
+use Rattle.plan_steps.specs.Steps.{step}
+use Rattle.plan_settling.specs.Settling.{pointer, settleOtherwise, lineOf, settleBy, settle}
+use Rattle.plan_rounds.specs.Walk.{walk}
+use Rattle.walker_rule.specs.Walker.{typed, absent, walker}
+use Rattle.plan_report.specs.Plan.{Plan}
 use Rattle.planner.specs.Plan.{planOf}
 use Rattle.planner.specs.Demand.{Hidden}
 use Rattle.planner.proofs.Table.{leaf, of, int32, plan, planned}

@@ -4,22 +4,22 @@ use mathlib.Core.Path.{_≡_, refl}
 use mathlib.Core.Bool.{Bool, true, false}
 use mathlib.Core.List.{List, [], _∷_}
 use Prim.Native.Nat.{ℕ}
-use Rattle.kinds.specs.Kind as kind
-use Rattle.layers.specs.Layers.{Layer, layer, outer, inside}
-use Rattle.layers.specs.Answer.{Answer, given, refused}
-use Rattle.parts.specs.Parts.{references}
-use Rattle.sizes.specs.Depth.{pointerDepth}
-use Rattle.forms.specs.Formed.{inner, element, wellFormed}
-use Rattle.equalities.specs.Equalities.{identical, plain, equals}
-use Rattle.relations.specs.Relations.{declared}
-use Rattle.coercions.specs.Coercions.{coerces, addressCoerces}
-use Rattle.steps.specs.StepKind as of-step
-use Rattle.steps.specs.Steps.{Step, step}
-use Rattle.turns.specs.Turns.{turn}
-use Rattle.settlings.specs.Settling.{settleOtherwise, lineOf, settleBy, settle}
-use Rattle.walker.specs.Walker.{absent}
-use Rattle.rounds.specs.Walk.{walk}
-use Rattle.reports.specs.Plan.{Plan}
+use Rattle.type_numbers.specs.Kind as kind
+use Rattle.type_layers.specs.Layers.{Layer, layer, outer, inside}
+use Rattle.type_layers.specs.Answer.{Answer, given, refused}
+use Rattle.type_parts.specs.Parts.{references}
+use Rattle.type_size_and_depth.specs.Depth.{pointerDepth}
+use Rattle.type_wellformed.specs.Formed.{inner, element, wellFormed}
+use Rattle.relation_equals.specs.Equalities.{identical, plain, equals}
+use Rattle.relation_declared.specs.Relations.{declared}
+use Rattle.relation_coerces.specs.Coercions.{coerces, addressCoerces}
+use Rattle.plan_steps.specs.StepKind as of-step
+use Rattle.plan_steps.specs.Steps.{Step, step}
+use Rattle.plan_turn.specs.Turns.{turn}
+use Rattle.plan_settling.specs.Settling.{settleOtherwise, lineOf, settleBy, settle}
+use Rattle.walker_rule.specs.Walker.{absent}
+use Rattle.plan_rounds.specs.Walk.{walk}
+use Rattle.plan_report.specs.Plan.{Plan}
 use Rattle.planner.specs.Plan.{planOf}
 
 abbrev pub leaf : ℕ → List Layer

@@ -11,16 +11,16 @@ use native.Mathlib.Omega.{arith}
 use lib.Dec.{eqb, leb}
 use lib.ListN.{length, take, drop, length-drop, length-append}
 use lib.Seq.{take-add}
-use Rattle.layers.specs.Layers.{Layer}
-use Rattle.layers.specs.Answer.{Answer, given, nothing, refused}
-use Rattle.steps.specs.StepKind as of-step
-use Rattle.steps.specs.Steps.{Step, goodStep, goodSteps}
-use Rattle.steps.proofs.Words.{good-append}
-use Rattle.layers.proofs.Decide.{both}
-use Rattle.walker.specs.Walker.{Where, at, stuck, Stored, act, then, walker}
-use Rattle.rounds.specs.Walk.{Walk, ended, stopped, stepsOf, takenBy, goes, turnAt, prepend, onward, walk}
-use Rattle.turns.specs.Turn.{Turn, Stuck, Auto, Element, Desliced, Member}
-use Rattle.rounds.proofs.Turning.{took-few}
+use Rattle.type_layers.specs.Layers.{Layer}
+use Rattle.type_layers.specs.Answer.{Answer, given, nothing, refused}
+use Rattle.plan_steps.specs.StepKind as of-step
+use Rattle.plan_steps.specs.Steps.{Step, goodStep, goodSteps}
+use Rattle.plan_steps.proofs.Words.{good-append}
+use Rattle.type_layers.proofs.Decide.{both}
+use Rattle.walker_rule.specs.Walker.{Where, at, stuck, Stored, act, then, walker}
+use Rattle.plan_rounds.specs.Walk.{Walk, ended, stopped, stepsOf, takenBy, goes, turnAt, prepend, onward, walk}
+use Rattle.plan_turn.specs.Turn.{Turn, Stuck, Auto, Element, Desliced, Member}
+use Rattle.plan_rounds.proofs.Turning.{took-few}
 use Rattle.planner.specs.Demand.{asked, unmarked, rounds}
 use Rattle.planner.proofs.Leads.{leads, takes, turns-once, steps-good}
 

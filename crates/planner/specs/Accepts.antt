@@ -4,8 +4,8 @@ use mathlib.Core.Logic.{_⊎_}
 use mathlib.Core.List.{List}
 use Prim.Native.Nat.{ℕ, _*_, _≤_, _<_}
 use lib.ListN.{take}
-use Rattle.answers.specs.declared.flat.Answer.{Answer}
-use Rattle.reports.specs.declared.report.Report.{Report}
+use Rattle.write_answer.specs.declared.answer.Answer.{Answer}
+use Rattle.plan_report.specs.declared.report.Report.{Report}
 
 -- The comparison that a caller makes: no refusal, as many words as the report has layers for, and in the walker's output
 -- the words that stand in the plan's.

@@ -4,16 +4,16 @@ use mathlib.Core.Bool.{cond}
 use mathlib.Core.List.{List}
 use Prim.Native.Nat.{ℕ}
 use lib.Dec.{ltb}
-use Rattle.layers.specs.Layers.{layers}
-use Rattle.layers.specs.Answer.{Answer, refused, next}
-use Rattle.checks.specs.Check.{checkOf}
-use Rattle.columns.specs.declared.symbol.Symbol.{Symbol}
-use Rattle.orders.specs.Order.{inOrder}
-use Rattle.steps.specs.Steps.{steps, stepsAnswer}
-use Rattle.walker.specs.Members.{members}
-use Rattle.reports.specs.Plan.{Plan}
+use Rattle.type_layers.specs.Layers.{layers}
+use Rattle.type_layers.specs.Answer.{Answer, refused, next}
+use Rattle.type_checks.specs.Check.{checkOf}
+use Rattle.symbol_columns.specs.declared.symbol.Symbol.{Symbol}
+use Rattle.symbol_order.specs.Order.{inOrder}
+use Rattle.plan_steps.specs.Steps.{steps, stepsAnswer}
+use Rattle.walker_rule.specs.Members.{members}
+use Rattle.plan_report.specs.Plan.{Plan}
 use Rattle.planner.specs.Plan.{planOf}
-use Rattle.reports.specs.Report.{delivered}
+use Rattle.plan_report.specs.Report.{delivered}
 
 -- "At most 32 asked steps, 0 to 64 rounds"; "5 bad ... step, step count or rounds"
 abbrev pub limits : List ℕ → ℕ → Answer ℕ

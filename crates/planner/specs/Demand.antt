@@ -7,15 +7,15 @@ use mathlib.Core.List.{List, [], _∷_, _++_, map}
 use Prim.Native.Nat.{ℕ, _+_, _≤_}
 use lib.Dec.{eqb, leb}
 use lib.ListN.{length, take, drop}
-use Rattle.kinds.specs.Kind as kind
-use Rattle.layers.specs.Layers.{Layer, outer}
-use Rattle.parts.specs.Parts.{references}
-use Rattle.steps.specs.StepKind as of-step
-use Rattle.steps.specs.Steps.{Step, step, goodSteps}
-use Rattle.settlings.specs.Line as line
-use Rattle.settlings.specs.Settling.{lineOf}
-use Rattle.walker.specs.Walker.{at, Stored, walker, arrives}
-use Rattle.reports.specs.Plan.{Plan}
+use Rattle.type_numbers.specs.Kind as kind
+use Rattle.type_layers.specs.Layers.{Layer, outer}
+use Rattle.type_parts.specs.Parts.{references}
+use Rattle.plan_steps.specs.StepKind as of-step
+use Rattle.plan_steps.specs.Steps.{Step, step, goodSteps}
+use Rattle.plan_settling.specs.Line as line
+use Rattle.plan_settling.specs.Settling.{lineOf}
+use Rattle.walker_rule.specs.Walker.{at, Stored, walker, arrives}
+use Rattle.plan_report.specs.Plan.{Plan}
 
 -- "an element's endless mark aside"
 abbrev pub unmarked : Step → Step

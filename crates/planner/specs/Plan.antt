@@ -2,14 +2,14 @@
 use mathlib.Core.Bool.{cond, not}
 use mathlib.Core.List.{List}
 use Prim.Native.Nat.{ℕ}
-use Rattle.layers.specs.Layers.{Layer}
-use Rattle.layers.specs.Answer.{Answer, refused}
-use Rattle.forms.specs.Formed.{wellFormed}
-use Rattle.steps.specs.Steps.{Step}
-use Rattle.walker.specs.Walker.{Stored}
-use Rattle.reports.specs.Plan.{Plan}
-use Rattle.rounds.specs.Walk.{walk}
-use Rattle.rounds.specs.Walked.{settleWalk}
+use Rattle.type_layers.specs.Layers.{Layer}
+use Rattle.type_layers.specs.Answer.{Answer, refused}
+use Rattle.type_wellformed.specs.Formed.{wellFormed}
+use Rattle.plan_steps.specs.Steps.{Step}
+use Rattle.walker_rule.specs.Walker.{Stored}
+use Rattle.plan_report.specs.Plan.{Plan}
+use Rattle.plan_rounds.specs.Walk.{walk}
+use Rattle.plan_rounds.specs.Walked.{settleWalk}
 
 -- "Known, target and member types must be well formed, else 4": known, then target.
 unfoldable pub planOf : (ℕ → Stored) → List Layer → List Step → List Layer → ℕ → ℕ → Answer Plan

@@ -4,15 +4,15 @@ use mathlib.Core.Bool.{true, false}
 use mathlib.Core.Logic.{_⊎_}
 use mathlib.Core.List.{List, _∷_, _++_}
 use Prim.Native.Nat.{ℕ}
-use Rattle.layers.specs.Layers.{Layer}
-use Rattle.layers.specs.Answer.{given}
-use Rattle.sizes.specs.Depth.{pointerDepth}
-use Rattle.coercions.specs.Coercions.{coerces, addressCoerces}
-use Rattle.steps.specs.Steps.{Step}
-use Rattle.settlings.specs.Line as line
-use Rattle.settlings.specs.Settling.{pointer, settled, settleOtherwise, lineOf}
-use Rattle.walker.specs.Walker.{at, Stored, walker}
-use Rattle.reports.specs.Plan.{Plan}
+use Rattle.type_layers.specs.Layers.{Layer}
+use Rattle.type_layers.specs.Answer.{given}
+use Rattle.type_size_and_depth.specs.Depth.{pointerDepth}
+use Rattle.relation_coerces.specs.Coercions.{coerces, addressCoerces}
+use Rattle.plan_steps.specs.Steps.{Step}
+use Rattle.plan_settling.specs.Line as line
+use Rattle.plan_settling.specs.Settling.{pointer, settled, settleOtherwise, lineOf}
+use Rattle.walker_rule.specs.Walker.{at, Stored, walker}
+use Rattle.plan_report.specs.Plan.{Plan}
 
 -- By the lines (i), (ii), (iv) and (v) the reported type is the target, and the plan is not coerced.
 abbrev pub Target : List Layer → Plan → Type 0

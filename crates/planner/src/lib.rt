@@ -1,7 +1,7 @@
 // The planner.
-mod entry;
-mod plan;
+mod lent_table;
+mod plan_checks;
 
-pub use entry::autoderef;
-pub use plan::plan_among;
-pub use reports::Report;
+pub use lent_table::autoderef;
+pub use plan_checks::plan_among;
+pub use plan_report::Report;

@@ -7,29 +7,29 @@ use Prim.Native.Nat.{ℕ, _*_, _/_, _≤_}
 use native.Mathlib.Omega.{arith}
 use lib.Dec.{leb}
 use lib.ListN.{length}
-use Rattle.layers.specs.Answer as paper
-use Rattle.layers.specs.Answer.{given, refused, isGiven}
-use Rattle.layers.specs.Layers.{layers}
-use Rattle.checks.specs.Check as check
-use Rattle.checks.specs.Check.{Place, at, nowhere, badCount, badLayer, misplaced, checkOf}
-use Rattle.checks.proofs.Checks.{start}
-use Rattle.buffers.specs.Written.{written}
-use Rattle.buffers.proofs.Writing.{length-written}
-use Rattle.columns.specs.declared.symbol.Symbol.{Symbol}
-use Rattle.columns.specs.Rows.{free}
-use Rattle.columns.specs.Stored.{storedWords}
-use Rattle.orders.specs.Order.{passes}
-use Rattle.answers.specs.declared.flat.Answer.{Answer}
-use Rattle.answers.specs.Flat.{accepted}
-use Rattle.updates.specs.Updates.{typed}
-use Rattle.updates.proofs.Cases.{by-lines}
-use Rattle.updates.proofs.Theorems.{stored-written}
-use Rattle.operations.specs.Act as act
-use Rattle.operations.specs.Act.{Act}
-use Rattle.ways.specs.Ways.{offeredCheck}
-use Rattle.changes.specs.Changes.{inserts}
-use Rattle.slots.specs.Deeds.{poisoned, Deed, deed, overwrites}
-use Rattle.ways.proofs.Decided.{notRefused}
+use Rattle.type_layers.specs.Answer as paper
+use Rattle.type_layers.specs.Answer.{given, refused, isGiven}
+use Rattle.type_layers.specs.Layers.{layers}
+use Rattle.type_checks.specs.Check as check
+use Rattle.type_checks.specs.Check.{Place, at, nowhere, badCount, badLayer, misplaced, checkOf}
+use Rattle.type_checks.proofs.Checks.{start}
+use Rattle.write_words.specs.Written.{written}
+use Rattle.write_words.proofs.Writing.{length-written}
+use Rattle.symbol_columns.specs.declared.symbol.Symbol.{Symbol}
+use Rattle.symbol_columns.specs.Rows.{free}
+use Rattle.symbol_columns.specs.Stored.{storedWords}
+use Rattle.symbol_order.specs.Order.{passes}
+use Rattle.write_answer.specs.declared.answer.Answer.{Answer}
+use Rattle.write_answer.specs.Flat.{accepted}
+use Rattle.symbol_update.specs.Updates.{typed}
+use Rattle.symbol_update.proofs.Cases.{by-lines}
+use Rattle.symbol_update.proofs.Theorems.{stored-written}
+use Rattle.symbol_operations.specs.Act as act
+use Rattle.symbol_operations.specs.Act.{Act}
+use Rattle.symbol_slot.specs.Ways.{offeredCheck}
+use Rattle.symbol_change.specs.Changes.{inserts}
+use Rattle.symbol_record.specs.Deeds.{poisoned, Deed, deed, overwrites}
+use Rattle.symbol_slot.proofs.Decided.{notRefused}
 
 -- words that are not refused
 module _ (ws : List ℕ) (e : notRefused (checkOf ws) ≡ true) where

@@ -6,19 +6,19 @@ use mathlib.Core.List.{List}
 use Prim.Native.Nat.{ℕ, _/_}
 use lib.Dec.{eqb, ltb}
 use lib.ListN.{length}
-use Rattle.layers.specs.Answer as paper
-use Rattle.layers.specs.Answer.{given, nothing, refused}
-use Rattle.layers.specs.Layers.{layers}
-use Rattle.checks.specs.Check as check
-use Rattle.checks.specs.Check.{Place, at, nowhere, badCount, badLayer, misplaced, checkOf}
-use Rattle.columns.specs.declared.symbol.Symbol.{Symbol}
-use Rattle.searches.specs.Search.{slotFor, firstFree}
-use Rattle.orders.specs.Order.{inOrder}
-use Rattle.operations.specs.Act as act
-use Rattle.operations.specs.Act.{Act}
-use Rattle.ways.specs.Way as way
-use Rattle.ways.specs.Way.{Way}
-use Rattle.ways.specs.Ways.{offeredCheck, placeOf, unless, wayOf}
+use Rattle.type_layers.specs.Answer as paper
+use Rattle.type_layers.specs.Answer.{given, nothing, refused}
+use Rattle.type_layers.specs.Layers.{layers}
+use Rattle.type_checks.specs.Check as check
+use Rattle.type_checks.specs.Check.{Place, at, nowhere, badCount, badLayer, misplaced, checkOf}
+use Rattle.symbol_columns.specs.declared.symbol.Symbol.{Symbol}
+use Rattle.symbol_search.specs.Search.{slotFor, firstFree}
+use Rattle.symbol_order.specs.Order.{inOrder}
+use Rattle.symbol_operations.specs.Act as act
+use Rattle.symbol_operations.specs.Act.{Act}
+use Rattle.symbol_slot.specs.Way as way
+use Rattle.symbol_slot.specs.Way.{Way}
+use Rattle.symbol_slot.specs.Ways.{offeredCheck, placeOf, unless, wayOf}
 
 abbrev checkNumbered : paper.Answer ℕ → Bool
 checkNumbered (given n) = true

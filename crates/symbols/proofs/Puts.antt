@@ -10,35 +10,35 @@ use lib.Dec.{eqb, leb}
 use lib.ListN.{length, drop, getD, set, length-set, take-append-drop}
 use lib.Seq.{set-getD, getD-set-same}
 use borrow.Author.Tests.{eq-eqb, ne-eqb, lt-ltb, lt-leb, leb-true, leb-false, eqb-false}
-use Rattle.layers.specs.Answer as paper
-use Rattle.layers.specs.Answer.{given, nothing, refused}
-use Rattle.layers.specs.Layers.{layers}
-use Rattle.checks.specs.Check.{at, checkOf}
-use Rattle.equalities.specs.Equalities.{identical}
-use Rattle.relations.specs.Relations.{concretization}
-use Rattle.equalities.proofs.Theorems.{identical-reflexive}
-use Rattle.columns.specs.declared.symbol.Symbol.{Symbol}
-use Rattle.columns.specs.Rows.{vacant, free}
-use Rattle.columns.specs.Stored.{slotWords, storedWords}
-use Rattle.searches.specs.Search.{slotFor}
-use Rattle.orders.specs.Order.{inOrder, taken}
-use Rattle.orders.proofs.Ordered.{ordered, in-order}
+use Rattle.type_layers.specs.Answer as paper
+use Rattle.type_layers.specs.Answer.{given, nothing, refused}
+use Rattle.type_layers.specs.Layers.{layers}
+use Rattle.type_checks.specs.Check.{at, checkOf}
+use Rattle.relation_equals.specs.Equalities.{identical}
+use Rattle.relation_declared.specs.Relations.{concretization}
+use Rattle.relation_equals.proofs.Theorems.{identical-reflexive}
+use Rattle.symbol_columns.specs.declared.symbol.Symbol.{Symbol}
+use Rattle.symbol_columns.specs.Rows.{vacant, free}
+use Rattle.symbol_columns.specs.Stored.{slotWords, storedWords}
+use Rattle.symbol_search.specs.Search.{slotFor}
+use Rattle.symbol_order.specs.Order.{inOrder, taken}
+use Rattle.symbol_order.proofs.Ordered.{ordered, in-order}
 use Rattle.symbols.proofs.Setting.{state-at, slot-taken, slot-kept, slot-written}
-use Rattle.answers.specs.declared.flat.Answer.{Answer}
-use Rattle.answers.specs.Flat.{accepted}
-use Rattle.updates.proofs.Cases.{by-lines}
-use Rattle.updates.proofs.Theorems.{poison-wins as update-poison, accepted-holds-offered}
-use Rattle.operations.specs.Act as act
-use Rattle.operations.specs.Operation.{putNothing, acts}
-use Rattle.ways.specs.Ways.{placeOf, unless, wayOf}
-use Rattle.slots.specs.Deeds.{Deed, overwrites}
-use Rattle.changes.specs.Changes.{Outcome, withSlot, outcomeBy, outcome}
-use Rattle.lookups.specs.Gets.{markFor, got, typeIn, typeOf}
-use Rattle.lookups.specs.Got as got′
-use Rattle.lookups.specs.Got.{Got}
-use Rattle.ways.specs.Way as way
-use Rattle.ways.specs.Way.{Way}
-use Rattle.ways.proofs.Decided.{Within, found-is, found-in, found-checked, notRefused}
+use Rattle.write_answer.specs.declared.answer.Answer.{Answer}
+use Rattle.write_answer.specs.Flat.{accepted}
+use Rattle.symbol_update.proofs.Cases.{by-lines}
+use Rattle.symbol_update.proofs.Theorems.{poison-wins as update-poison, accepted-holds-offered}
+use Rattle.symbol_operations.specs.Act as act
+use Rattle.symbol_operations.specs.Operation.{putNothing, acts}
+use Rattle.symbol_slot.specs.Ways.{placeOf, unless, wayOf}
+use Rattle.symbol_record.specs.Deeds.{Deed, overwrites}
+use Rattle.symbol_change.specs.Changes.{Outcome, withSlot, outcomeBy, outcome}
+use Rattle.symbol_get.specs.Gets.{markFor, got, typeIn, typeOf}
+use Rattle.symbol_get.specs.Got as got′
+use Rattle.symbol_get.specs.Got.{Got}
+use Rattle.symbol_slot.specs.Way as way
+use Rattle.symbol_slot.specs.Way.{Way}
+use Rattle.symbol_slot.proofs.Decided.{Within, found-is, found-in, found-checked, notRefused}
 use Rattle.symbols.proofs.Deeds.{few-words, whole-layers}
 use Rattle.symbols.proofs.Numbered.{numbered, way-numbered}
 use Rattle.symbols.proofs.Theorems.{all, found-fine, found-order, way-finds, held}

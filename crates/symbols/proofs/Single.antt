@@ -12,7 +12,7 @@ use contract.Lifetimes.{Lfts}
 use contract.Monad.{Fun}
 use denote.Ref.{now}
 use denote.Triple.Entry.{Args}
-use Rattle.columns.proofs.Single.{Walked}
+use Rattle.symbol_columns.proofs.Single.{Walked}
 use Rattle.symbols.proofs.change.change_symbol as change-symbol
 use Rattle.symbols.proofs.put.put_symbol as put-symbol
 use Rattle.symbols.proofs.put.poison_symbol as poison-symbol

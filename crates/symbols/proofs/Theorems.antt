@@ -10,34 +10,34 @@ use lib.Dec.{eqb, leb, ltb}
 use lib.ListN.{length, take, drop, getD, set, length-set, length-append, length-drop, take-append-drop}
 use lib.Seq.{set-getD, length-take-le, getD-set-same, getD-set-other, take-at, drop-at}
 use borrow.Author.Tests.{ltb-true, ltb-false, eq-eqb, lt-leb, leb-false}
-use Rattle.layers.specs.Layers.{layers}
-use Rattle.checks.specs.Check.{at, checkOf}
-use Rattle.buffers.specs.Written.{written}
-use Rattle.buffers.proofs.Writing.{length-written}
-use Rattle.columns.specs.declared.symbol.Symbol.{Symbol}
-use Rattle.columns.specs.Rows.{vacant, free}
-use Rattle.columns.specs.Stored.{slotWords, storedWords}
-use Rattle.searches.specs.Search.{slotFor}
-use Rattle.orders.specs.Order.{passes, inOrder, takenFirst, taken, hasId, repeats}
-use Rattle.searches.proofs.Searching.{slot-has}
-use Rattle.orders.proofs.Ordered.{Ordered, in-order, pass-at}
+use Rattle.type_layers.specs.Layers.{layers}
+use Rattle.type_checks.specs.Check.{at, checkOf}
+use Rattle.write_words.specs.Written.{written}
+use Rattle.write_words.proofs.Writing.{length-written}
+use Rattle.symbol_columns.specs.declared.symbol.Symbol.{Symbol}
+use Rattle.symbol_columns.specs.Rows.{vacant, free}
+use Rattle.symbol_columns.specs.Stored.{slotWords, storedWords}
+use Rattle.symbol_search.specs.Search.{slotFor}
+use Rattle.symbol_order.specs.Order.{passes, inOrder, takenFirst, taken, hasId, repeats}
+use Rattle.symbol_search.proofs.Searching.{slot-has}
+use Rattle.symbol_order.proofs.Ordered.{Ordered, in-order, pass-at}
 use Rattle.symbols.proofs.Setting.{states-set, state-at, first-set, first-new, ids-kept, ids-new, absent-id, pass-set, slot-taken, slot-other, slot-kept, slot-new, free-at, words-before, words-after, slot-written, turned-round}
-use Rattle.answers.specs.declared.flat.Answer.{Answer}
-use Rattle.answers.specs.Flat.{accepted, notAccepted}
-use Rattle.updates.specs.Updates.{typed}
-use Rattle.updates.proofs.Cases.{by-lines}
-use Rattle.operations.specs.Act as act
-use Rattle.operations.specs.Act.{Act}
-use Rattle.operations.specs.Operation.{Operation, putNothing, acts}
-use Rattle.ways.specs.Ways.{offeredCheck, wayOf}
-use Rattle.slots.specs.Deeds.{Deed, deed, overwrites}
-use Rattle.changes.specs.Changes.{inserts, Outcome, withSlot, atSlot, outcomeBy, outcome}
-use Rattle.lookups.specs.Gets.{markFor, got, typeIn, typeOf}
-use Rattle.lookups.specs.Got as got′
-use Rattle.lookups.specs.Got.{Got}
-use Rattle.ways.specs.Way as way
-use Rattle.ways.specs.Way.{Way}
-use Rattle.ways.proofs.Decided.{Within, found-is, found-in, found-has, new-is, new-in, new-absent, found-checked, new-checked, notRefused}
+use Rattle.write_answer.specs.declared.answer.Answer.{Answer}
+use Rattle.write_answer.specs.Flat.{accepted, notAccepted}
+use Rattle.symbol_update.specs.Updates.{typed}
+use Rattle.symbol_update.proofs.Cases.{by-lines}
+use Rattle.symbol_operations.specs.Act as act
+use Rattle.symbol_operations.specs.Act.{Act}
+use Rattle.symbol_operations.specs.Operation.{Operation, putNothing, acts}
+use Rattle.symbol_slot.specs.Ways.{offeredCheck, wayOf}
+use Rattle.symbol_record.specs.Deeds.{Deed, deed, overwrites}
+use Rattle.symbol_change.specs.Changes.{inserts, Outcome, withSlot, atSlot, outcomeBy, outcome}
+use Rattle.symbol_get.specs.Gets.{markFor, got, typeIn, typeOf}
+use Rattle.symbol_get.specs.Got as got′
+use Rattle.symbol_get.specs.Got.{Got}
+use Rattle.symbol_slot.specs.Way as way
+use Rattle.symbol_slot.specs.Way.{Way}
+use Rattle.symbol_slot.proofs.Decided.{Within, found-is, found-in, found-has, new-is, new-in, new-absent, found-checked, new-checked, notRefused}
 use Rattle.symbols.proofs.Deeds.{Fine, inserts-fine, overwrites-fine, words-there}
 use Rattle.symbols.proofs.Numbered.{numbered, way-numbered}
 

@@ -5,24 +5,24 @@ use mathlib.Core.Bool.{Bool, true}
 use mathlib.Core.List.{List, []}
 use Prim.Native.Nat.{ℕ, _<_}
 use lib.ListN.{length}
-use Rattle.layers.specs.Answer as paper
-use Rattle.layers.specs.Answer.{given, nothing, refused}
-use Rattle.columns.specs.declared.symbol.Symbol.{Symbol}
-use Rattle.columns.specs.Rows.{readFrom}
-use Rattle.tables.specs.Gathered.{gathered}
-use Rattle.tables.proofs.Gathering.{swapped}
-use Rattle.orders.proofs.Ordered.{too-long}
-use Rattle.answers.specs.Flat.{notAccepted}
-use Rattle.operations.specs.Act.{Act}
-use Rattle.operations.specs.Operation.{Operation, putNothing, acts}
-use Rattle.ways.specs.Ways.{offeredCheck, placeOf, unless, wayOf}
-use Rattle.ways.specs.Way as way
-use Rattle.ways.specs.Way.{Way}
-use Rattle.changes.specs.Changes.{nowhere, outcomeBy, outcome, changeBy, changeOf, storeOf}
-use Rattle.changes.specs.declared.change.Change.{Change}
-use Rattle.lookups.specs.Gets.{got, typeIn, typeOf}
-use Rattle.lookups.specs.Got as got′
-use Rattle.lookups.specs.Got.{Got}
+use Rattle.type_layers.specs.Answer as paper
+use Rattle.type_layers.specs.Answer.{given, nothing, refused}
+use Rattle.symbol_columns.specs.declared.symbol.Symbol.{Symbol}
+use Rattle.symbol_columns.specs.Rows.{readFrom}
+use Rattle.symbol_lent.specs.Gathered.{gathered}
+use Rattle.symbol_lent.proofs.Gathering.{swapped}
+use Rattle.symbol_order.proofs.Ordered.{too-long}
+use Rattle.write_answer.specs.Flat.{notAccepted}
+use Rattle.symbol_operations.specs.Act.{Act}
+use Rattle.symbol_operations.specs.Operation.{Operation, putNothing, acts}
+use Rattle.symbol_slot.specs.Ways.{offeredCheck, placeOf, unless, wayOf}
+use Rattle.symbol_slot.specs.Way as way
+use Rattle.symbol_slot.specs.Way.{Way}
+use Rattle.symbol_change.specs.Changes.{nowhere, outcomeBy, outcome, changeBy, changeOf, storeOf}
+use Rattle.symbol_change.specs.declared.change.Change.{Change}
+use Rattle.symbol_get.specs.Gets.{got, typeIn, typeOf}
+use Rattle.symbol_get.specs.Got as got′
+use Rattle.symbol_get.specs.Got.{Got}
 
 module _ (id : ℕ) (authority : Bool) (place mark : ℕ) (offered : List ℕ) (table : List Symbol) (store : List ℕ) where
   -- a table that is too long is refused, whatever it holds

@@ -1,11 +1,11 @@
-use answers::Answer;
-use changes::choose;
-use columns::Symbol;
-use operations::Operation;
-use tables::gather;
+use symbol_change::choose;
+use symbol_columns::Symbol;
+use symbol_lent::gather;
+use symbol_operations::Operation;
+use write_answer::Answer;
 ghost use mathlib.Core.Path.{_≡_};
-ghost use Rattle.operations.specs.Operations.{ofOperation};
-ghost use Rattle.changes.specs.Changes as rules;
+ghost use Rattle.symbol_operations.specs.Operations.{ofOperation};
+ghost use Rattle.symbol_change.specs.Changes as rules;
 
 // Changes a lent table and its store. A type has no mark and poison no offered words: the one that is not asked for is
 // not looked at.

@@ -1,10 +1,10 @@
-use answers::Answer;
-use columns::Symbol;
-use lookups::get_among;
-use lookups::type_among;
-use tables::gather;
+use symbol_columns::Symbol;
+use symbol_get::get_among;
+use symbol_get::type_among;
+use symbol_lent::gather;
+use write_answer::Answer;
 ghost use mathlib.Core.Path.{_≡_};
-ghost use Rattle.lookups.specs.Gets as rules;
+ghost use Rattle.symbol_get.specs.Gets as rules;
 
 // What a lent table has under a name.
 pub fn get_symbol(

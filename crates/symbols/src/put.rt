@@ -1,17 +1,17 @@
 use crate::change::change_symbol;
-use answers::Answer;
-use columns::Symbol;
-use operations::Declared;
-use operations::Offer;
-use operations::Operation;
-use operations::forward;
-use operations::put;
+use symbol_columns::Symbol;
+use symbol_operations::Declared;
+use symbol_operations::Offer;
+use symbol_operations::Operation;
+use symbol_operations::forward;
+use symbol_operations::put;
+use write_answer::Answer;
 ghost use mathlib.Core.Path.{_≡_};
 ghost use mathlib.Core.List.{[]};
-ghost use Rattle.operations.specs.Act as act;
-ghost use Rattle.operations.specs.Operation.{acts};
-ghost use Rattle.operations.specs.Operations as operations;
-ghost use Rattle.changes.specs.Changes as rules;
+ghost use Rattle.symbol_operations.specs.Act as act;
+ghost use Rattle.symbol_operations.specs.Operation.{acts};
+ghost use Rattle.symbol_operations.specs.Operations as operations;
+ghost use Rattle.symbol_change.specs.Changes as rules;
 
 // Puts nothing, poison or a type under a name.
 pub fn put_symbol(

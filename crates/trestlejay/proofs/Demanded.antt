@@ -15,14 +15,14 @@ use contract.Lifetimes.{Lfts}
 use contract.Monad.{Fun, fact}
 use denote.Ref.{now}
 use denote.Triple.Entry.{Args}
-use Rattle.layers.specs.Layers.{layers}
-use Rattle.outputs.specs.Outcome.{answerIn, bufferIn}
-use Rattle.columns.specs.declared.symbol.Symbol.{Symbol}
-use Rattle.answers.specs.Flat.{flat}
-use Rattle.steps.specs.Steps.{steps}
-use Rattle.walker.specs.Members.{members}
-use Rattle.walks.specs.Walked.{walkTo}
-use Rattle.reports.specs.Report.{planRead}
+use Rattle.type_layers.specs.Layers.{layers}
+use Rattle.write_type.specs.Outcome.{answerIn, bufferIn}
+use Rattle.symbol_columns.specs.declared.symbol.Symbol.{Symbol}
+use Rattle.write_answer.specs.Flat.{flat}
+use Rattle.plan_steps.specs.Steps.{steps}
+use Rattle.walker_rule.specs.Members.{members}
+use Rattle.walker_run.specs.Walked.{walkTo}
+use Rattle.plan_report.specs.Report.{planRead}
 use Rattle.planner.specs.Demand.{Hidden, Demand}
 use Rattle.planner.specs.Reported.{Reported}
 use Rattle.planner.specs.Accepts.{Accepts}

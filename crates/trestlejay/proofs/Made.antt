@@ -3,13 +3,13 @@
 use mathlib.Core.Path.{_≡_, ap, _∙_}
 use mathlib.Core.List.{List, [], _++_}
 use Prim.Native.Nat.{ℕ}
-use Rattle.layers.specs.Layers.{Layer, layers, spelled}
-use Rattle.layers.specs.Answer as paper
-use Rattle.layers.specs.Answer.{given}
-use Rattle.layers.proofs.Spelling.{layers-spelled}
-use Rattle.outputs.specs.Outcome.{answerIn, bufferIn}
-use Rattle.answers.specs.declared.flat.Answer.{Answer}
-use Rattle.answers.specs.Flat.{flat}
+use Rattle.type_layers.specs.Layers.{Layer, layers, spelled}
+use Rattle.type_layers.specs.Answer as paper
+use Rattle.type_layers.specs.Answer.{given}
+use Rattle.type_layers.proofs.Spelling.{layers-spelled}
+use Rattle.write_type.specs.Outcome.{answerIn, bufferIn}
+use Rattle.write_answer.specs.declared.answer.Answer.{Answer}
+use Rattle.write_answer.specs.Flat.{flat}
 
 -- what is told of a type, and what the output is afterwards
 abbrev Tells : List Layer → List ℕ → Answer → List ℕ → Type 0

@@ -9,16 +9,16 @@ use prog.Wp.{Heap}
 use ghost.Atoms.{Atoms}
 use contract.Monad.{Fun}
 use denote.Triple.Entry.{Args}
-use Rattle.columns.proofs.Single.{Walked}
+use Rattle.symbol_columns.proofs.Single.{Walked}
 use contract.Lifetimes.{Lfts}
 use denote.Ref.{now}
 use denote.Triple.Clauses.{AtExit}
 use borrow.Fn.Kinds.{Out, Dens, resT, endedOf}
-use Rattle.layers.proofs.Single.{Single}
+use Rattle.type_layers.proofs.Single.{Single}
 use Rattle.trestlejay.proofs.properties.tj_check.Kinds as of-type
-use Rattle.trestlejay.proofs.pairs.tj_equals.Kinds as of-pair
-use Rattle.trestlejay.proofs.numbers.tj_stored_size.Kinds as with-size
-use Rattle.trestlejay.proofs.numbers.tj_min_i128.Kinds as with-halves
+use Rattle.trestlejay.proofs.relations.tj_equals.Kinds as of-pair
+use Rattle.trestlejay.proofs.measures.tj_stored_size.Kinds as with-size
+use Rattle.trestlejay.proofs.measures.tj_min_i128.Kinds as with-halves
 use Rattle.trestlejay.proofs.fixing.tj_fix_type_for_flags.Kinds as with-buffer
 use Rattle.trestlejay.proofs.properties.tj_check.Reads as tj-check
 use Rattle.trestlejay.proofs.properties.tj_is_wellformed.Reads as tj-is-wellformed
@@ -27,38 +27,38 @@ use Rattle.trestlejay.proofs.properties.tj_is_integral.Reads as tj-is-i
 use Rattle.trestlejay.proofs.properties.tj_is_signed.Reads as tj-is-signed
 use Rattle.trestlejay.proofs.properties.tj_is_bitfield.Reads as tj-is-bitfield
 use Rattle.trestlejay.proofs.properties.tj_is_slice_pointer.Reads as tj-is-slice-pointer
-use Rattle.trestlejay.proofs.uses.tj_can_be_sized.Reads as tj-can-be-sized
-use Rattle.trestlejay.proofs.uses.tj_can_be_struct_member.Reads as tj-can-be-struct-member
-use Rattle.trestlejay.proofs.uses.tj_can_be_word_member.Reads as tj-can-be-word-member
-use Rattle.trestlejay.proofs.uses.tj_can_be_constant.Reads as tj-can-be-constant
-use Rattle.trestlejay.proofs.uses.tj_can_be_variable.Reads as tj-can-be-variable
-use Rattle.trestlejay.proofs.uses.tj_can_be_parameter.Reads as tj-can-be-parameter
-use Rattle.trestlejay.proofs.uses.tj_can_be_returned.Reads as tj-can-be-returned
-use Rattle.trestlejay.proofs.insides.tj_get_element_type.Reads as tj-get-element-type
-use Rattle.trestlejay.proofs.insides.tj_get_pointee_type.Reads as tj-get-pointee-type
-use Rattle.trestlejay.proofs.insides.tj_get_viewee_type.Reads as tj-get-viewee-type
-use Rattle.trestlejay.proofs.insides.tj_fully_dereferenced.Reads as tj-fully-dereferenced
-use Rattle.trestlejay.proofs.numbers.tj_pointer_depth.Reads as tj-pointer-depth
-use Rattle.trestlejay.proofs.numbers.tj_known_size_in_bytes_as_word_member.Reads as tj-known-size-in-bytes-as-word-member
-use Rattle.trestlejay.proofs.numbers.tj_stored_size.Reads as tj-stored-size
-use Rattle.trestlejay.proofs.numbers.tj_min_i128.Reads as tj-min-i128
-use Rattle.trestlejay.proofs.numbers.tj_max_u128.Reads as tj-max-u128
-use Rattle.trestlejay.proofs.pairs.tj_identical.Reads as tj-identical
-use Rattle.trestlejay.proofs.pairs.tj_equals.Reads as tj-equals
-use Rattle.trestlejay.proofs.pairs.tj_is_like.Reads as tj-is-like
-use Rattle.trestlejay.proofs.pairs.tj_can_be_declared_as.Reads as tj-can-be-declared-as
-use Rattle.trestlejay.proofs.pairs.tj_can_be_concretization_of.Reads as tj-can-be-concretization-of
-use Rattle.trestlejay.proofs.pairs.tj_can_coerce_into.Reads as tj-can-coerce-into
-use Rattle.trestlejay.proofs.pairs.tj_can_coerce_address_into.Reads as tj-can-coerce-address-into
-use Rattle.trestlejay.proofs.pairs.tj_can_autoderef_into.Reads as tj-can-autoderef-into
-use Rattle.trestlejay.proofs.pairs.tj_can_subautoderef_into.Reads as tj-can-subautoderef-into
+use Rattle.trestlejay.proofs.roles.tj_can_be_sized.Reads as tj-can-be-sized
+use Rattle.trestlejay.proofs.roles.tj_can_be_struct_member.Reads as tj-can-be-struct-member
+use Rattle.trestlejay.proofs.roles.tj_can_be_word_member.Reads as tj-can-be-word-member
+use Rattle.trestlejay.proofs.roles.tj_can_be_constant.Reads as tj-can-be-constant
+use Rattle.trestlejay.proofs.roles.tj_can_be_variable.Reads as tj-can-be-variable
+use Rattle.trestlejay.proofs.roles.tj_can_be_parameter.Reads as tj-can-be-parameter
+use Rattle.trestlejay.proofs.roles.tj_can_be_returned.Reads as tj-can-be-returned
+use Rattle.trestlejay.proofs.parts.tj_get_element_type.Reads as tj-get-element-type
+use Rattle.trestlejay.proofs.parts.tj_get_pointee_type.Reads as tj-get-pointee-type
+use Rattle.trestlejay.proofs.parts.tj_get_viewee_type.Reads as tj-get-viewee-type
+use Rattle.trestlejay.proofs.parts.tj_fully_dereferenced.Reads as tj-fully-dereferenced
+use Rattle.trestlejay.proofs.measures.tj_pointer_depth.Reads as tj-pointer-depth
+use Rattle.trestlejay.proofs.measures.tj_known_size_in_bytes_as_word_member.Reads as tj-known-size-in-bytes-as-word-member
+use Rattle.trestlejay.proofs.measures.tj_stored_size.Reads as tj-stored-size
+use Rattle.trestlejay.proofs.measures.tj_min_i128.Reads as tj-min-i128
+use Rattle.trestlejay.proofs.measures.tj_max_u128.Reads as tj-max-u128
+use Rattle.trestlejay.proofs.relations.tj_identical.Reads as tj-identical
+use Rattle.trestlejay.proofs.relations.tj_equals.Reads as tj-equals
+use Rattle.trestlejay.proofs.relations.tj_is_like.Reads as tj-is-like
+use Rattle.trestlejay.proofs.relations.tj_can_be_declared_as.Reads as tj-can-be-declared-as
+use Rattle.trestlejay.proofs.relations.tj_can_be_concretization_of.Reads as tj-can-be-concretization-of
+use Rattle.trestlejay.proofs.relations.tj_can_coerce_into.Reads as tj-can-coerce-into
+use Rattle.trestlejay.proofs.relations.tj_can_coerce_address_into.Reads as tj-can-coerce-address-into
+use Rattle.trestlejay.proofs.relations.tj_can_autoderef_into.Reads as tj-can-autoderef-into
+use Rattle.trestlejay.proofs.relations.tj_can_subautoderef_into.Reads as tj-can-subautoderef-into
 use Rattle.trestlejay.proofs.fixing.tj_fix_type_for_flags.Reads as tj-fix-type-for-flags
 use Rattle.trestlejay.proofs.strings.tj_for_string_literal.Kinds as of-literal
 use Rattle.trestlejay.proofs.strings.tj_for_string_literal.Reads as tj-for-string-literal
 use Rattle.trestlejay.proofs.strings.tj_for_string_slice.Kinds as of-string-slice
 use Rattle.trestlejay.proofs.strings.tj_for_string_slice.Reads as tj-for-string-slice
-use Rattle.trestlejay.proofs.sheet.tj_read_sheet.Kinds as of-sheet
-use Rattle.trestlejay.proofs.sheet.tj_read_sheet.Reads as tj-read-sheet
+use Rattle.trestlejay.proofs.sheets.tj_read_sheet.Kinds as of-sheet
+use Rattle.trestlejay.proofs.sheets.tj_read_sheet.Reads as tj-read-sheet
 use Rattle.trestlejay.proofs.records.tj_update_symbol as tj-update-symbol
 use Rattle.trestlejay.proofs.records.tj_put_nothing as tj-put-nothing
 use Rattle.trestlejay.proofs.records.tj_put_type as tj-put-type

@@ -4,19 +4,19 @@ use mathlib.Core.Path.{_≡_, sym, ap, _∙_}
 use mathlib.Core.Bool.{Bool, true, false, _&&_}
 use mathlib.Core.List.{List}
 use Prim.Native.Nat.{ℕ}
-use Rattle.layers.specs.Layers.{layers}
-use Rattle.layers.specs.Answer as paper
-use Rattle.layers.specs.Answer.{next, truth, isGiven}
-use Rattle.checks.specs.Check.{checkOf}
-use Rattle.layers.proofs.Decide.{both}
-use Rattle.checks.proofs.Refusals.{passed}
-use Rattle.questions.specs.Answers.{relates, relationAnswer, passes, coercionAnswer}
-use Rattle.questions.specs.declared.relate.Relation.{Relation}
-use Rattle.questions.specs.declared.coerce.Coercion.{Coercion}
-use Rattle.bounds.specs.declared.values.Halves.{Halves}
-use Rattle.answers.specs.declared.flat.Answer.{Answer}
-use Rattle.answers.specs.Flat.{accepted, flat}
-use Rattle.measures.specs.Measured.{flatFound, foundAfter, flatHalves, lowAfter, highAfter}
+use Rattle.type_layers.specs.Layers.{layers}
+use Rattle.type_layers.specs.Answer as paper
+use Rattle.type_layers.specs.Answer.{next, truth, isGiven}
+use Rattle.type_checks.specs.Check.{checkOf}
+use Rattle.type_layers.proofs.Decide.{both}
+use Rattle.type_checks.proofs.Refusals.{passed}
+use Rattle.relation_questions.specs.Answers.{relates, relationAnswer, passes, coercionAnswer}
+use Rattle.relation_questions.specs.declared.ask_relation.Relation.{Relation}
+use Rattle.relation_questions.specs.declared.ask_coercion.Coercion.{Coercion}
+use Rattle.type_bounds.specs.declared.bound.Halves.{Halves}
+use Rattle.write_answer.specs.declared.answer.Answer.{Answer}
+use Rattle.write_answer.specs.Flat.{accepted, flat}
+use Rattle.face_measures.specs.Measured.{flatFound, foundAfter, flatHalves, lowAfter, highAfter}
 
 module _ (a b : paper.Answer ℕ) (e : a ≡ b) where
   pub flat-of : (r : Answer) → r ≡ flat a → r ≡ flat b

@@ -1,7 +1,7 @@
-use answers::Answer;
+use write_answer::Answer;
 ghost use mathlib.Core.Path.{_≡_};
-ghost use Rattle.externs.specs.Answers.{fixedAnswer, fixedBuffer};
-ghost use Rattle.answers.specs.Flat as rules;
+ghost use Rattle.extern_fixing.specs.Answers.{fixedAnswer, fixedBuffer};
+ghost use Rattle.write_answer.specs.Flat as rules;
 
 #[no_mangle]
 pub extern "C" fn tj_fix_type_for_flags(
@@ -13,5 +13,5 @@ pub extern "C" fn tj_fix_type_for_flags(
     ensures answer { λ r. ⌜ r ≡ rules.flat (fixedAnswer (now (t .entry)) external context (now (out .entry))) ⌝ }
     ensures written { λ _. ⌜ now (out .exit) ≡ fixedBuffer (now (t .entry)) external context (now (out .entry)) ⌝ }
 {
-    answers::checked(externs::fix_type_for_flags(t, external, context, out))
+    write_answer::checked(extern_fixing::fix_type_for_flags(t, external, context, out))
 }

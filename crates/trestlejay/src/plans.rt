@@ -1,15 +1,15 @@
-use answers::Answer;
-use columns::Symbol;
 use planner::Report;
 use planner::autoderef;
-use walks::walk;
+use symbol_columns::Symbol;
+use walker_run::walk;
+use write_answer::Answer;
 ghost use mathlib.Core.Path.{_≡_};
 ghost use lib.ListN.{length};
-ghost use Rattle.outputs.specs.Outcome.{answerIn, bufferIn};
-ghost use Rattle.answers.specs.Flat.{flat};
-ghost use Rattle.reports.specs.Report as report;
+ghost use Rattle.write_type.specs.Outcome.{answerIn, bufferIn};
+ghost use Rattle.write_answer.specs.Flat.{flat};
+ghost use Rattle.plan_report.specs.Report as report;
 ghost use Rattle.planner.specs.Answers as answers;
-ghost use Rattle.walks.specs.Walked as walks;
+ghost use Rattle.walker_run.specs.Walked as walks;
 
 #[no_mangle]
 pub extern "C" fn tj_autoderef<'a>(

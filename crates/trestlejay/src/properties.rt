@@ -1,58 +1,58 @@
-use answers::Answer;
-use answers::checked;
-use answers::verdict;
-use outsides::Property;
+use type_properties::Property;
+use write_answer::Answer;
+use write_answer::checked;
+use write_answer::verdict;
 ghost use mathlib.Core.Path.{_≡_};
-ghost use Rattle.checks.specs.Check.{checkOf};
-ghost use Rattle.forms.specs.Formed.{wellFormedAnswer};
-ghost use Rattle.outsides.specs.Properties.{propertyAnswer};
-ghost use Rattle.answers.specs.Flat.{flat};
+ghost use Rattle.type_checks.specs.Check.{checkOf};
+ghost use Rattle.type_wellformed.specs.Formed.{wellFormedAnswer};
+ghost use Rattle.type_properties.specs.Properties.{propertyAnswer};
+ghost use Rattle.write_answer.specs.Flat.{flat};
 
 #[no_mangle]
 pub extern "C" fn tj_check(t: &[u64]) -> Answer
     ensures { λ r. ⌜ r ≡ flat (checkOf (now (t .entry))) ⌝ }
 {
-    checked(refusals::check_type(t))
+    checked(type_first_refusal::check_type(t))
 }
 
 #[no_mangle]
 pub extern "C" fn tj_is_wellformed(t: &[u64]) -> Answer
     ensures { λ r. ⌜ r ≡ flat (wellFormedAnswer (now (t .entry))) ⌝ }
 {
-    verdict(forms::wellformed(t))
+    verdict(type_wellformed::wellformed(t))
 }
 
 #[no_mangle]
 pub extern "C" fn tj_is_void(t: &[u64]) -> Answer
     ensures { λ r. ⌜ r ≡ flat (propertyAnswer Property.Void (now (t .entry))) ⌝ }
 {
-    verdict(outsides::has(Property::Void, t))
+    verdict(type_properties::has(Property::Void, t))
 }
 
 #[no_mangle]
 pub extern "C" fn tj_is_integral(t: &[u64]) -> Answer
     ensures { λ r. ⌜ r ≡ flat (propertyAnswer Property.Integral (now (t .entry))) ⌝ }
 {
-    verdict(outsides::has(Property::Integral, t))
+    verdict(type_properties::has(Property::Integral, t))
 }
 
 #[no_mangle]
 pub extern "C" fn tj_is_signed(t: &[u64]) -> Answer
     ensures { λ r. ⌜ r ≡ flat (propertyAnswer Property.Signed (now (t .entry))) ⌝ }
 {
-    verdict(outsides::has(Property::Signed, t))
+    verdict(type_properties::has(Property::Signed, t))
 }
 
 #[no_mangle]
 pub extern "C" fn tj_is_bitfield(t: &[u64]) -> Answer
     ensures { λ r. ⌜ r ≡ flat (propertyAnswer Property.Bitfield (now (t .entry))) ⌝ }
 {
-    verdict(outsides::has(Property::Bitfield, t))
+    verdict(type_properties::has(Property::Bitfield, t))
 }
 
 #[no_mangle]
 pub extern "C" fn tj_is_slice_pointer(t: &[u64]) -> Answer
     ensures { λ r. ⌜ r ≡ flat (propertyAnswer Property.SlicePointer (now (t .entry))) ⌝ }
 {
-    verdict(outsides::has(Property::SlicePointer, t))
+    verdict(type_properties::has(Property::SlicePointer, t))
 }

@@ -1,18 +1,18 @@
-use answers::Answer;
-use columns::Symbol;
-use operations::Declared;
-use operations::Offer;
+use symbol_columns::Symbol;
+use symbol_operations::Declared;
+use symbol_operations::Offer;
 use symbols::forward_declare_symbol;
 use symbols::get_symbol;
 use symbols::poison_symbol;
 use symbols::put_symbol;
+use write_answer::Answer;
 ghost use mathlib.Core.Path.{_≡_};
 ghost use mathlib.Core.List.{[]};
-ghost use Rattle.lone.specs.Lone as rules;
-ghost use Rattle.operations.specs.Act as act;
-ghost use Rattle.operations.specs.Operation.{putNothing, acts};
-ghost use Rattle.changes.specs.Changes as changes;
-ghost use Rattle.lookups.specs.Gets as gets;
+ghost use Rattle.symbol_update_lone.specs.Lone as rules;
+ghost use Rattle.symbol_operations.specs.Act as act;
+ghost use Rattle.symbol_operations.specs.Operation.{putNothing, acts};
+ghost use Rattle.symbol_change.specs.Changes as changes;
+ghost use Rattle.symbol_get.specs.Gets as gets;
 
 #[no_mangle]
 pub extern "C" fn tj_update_symbol(
@@ -27,7 +27,7 @@ pub extern "C" fn tj_update_symbol(
         × (now (symbol .exit) ≡ rules.loneUpdated (now (symbol .entry)) (now (words .entry)) id authority place (now (offered .entry)) .symbol)
         × (now (words .exit) ≡ rules.loneWordsAfter (now (symbol .entry)) (now (words .entry)) authority (now (offered .entry))) ⌝ }
 {
-    lone::do_update_symbol(symbol, words, id, authority, place, offered)
+    symbol_update_lone::do_update_symbol(symbol, words, id, authority, place, offered)
 }
 
 #[no_mangle]

@@ -1,14 +1,14 @@
-use answers::Answer;
-use answers::checked;
-use builders::for_string_literal;
-use builders::for_string_slice;
-use outputs::write_type;
+use type_builders::for_string_literal;
+use type_builders::for_string_slice;
+use write_answer::Answer;
+use write_answer::checked;
+use write_type::write_type;
 ghost use mathlib.Core.Path.{_≡_};
-ghost use Rattle.layers.specs.Answer.{given};
-ghost use Rattle.layers.specs.Layers.{layers};
-ghost use Rattle.builders.specs.Strings.{stringLiteral, stringSlice};
-ghost use Rattle.outputs.specs.Outcome.{answerIn, bufferIn};
-ghost use Rattle.answers.specs.Flat as rules;
+ghost use Rattle.type_layers.specs.Answer.{given};
+ghost use Rattle.type_layers.specs.Layers.{layers};
+ghost use Rattle.type_builders.specs.Strings.{stringLiteral, stringSlice};
+ghost use Rattle.write_type.specs.Outcome.{answerIn, bufferIn};
+ghost use Rattle.write_answer.specs.Flat as rules;
 
 // Writes a type whose words are there.
 fn hand_out(t: &[u64], out: &mut [u64]) -> Answer

@@ -48,33 +48,33 @@ use denote.Triple.Table.{entered, cited}
 use denote.Triple.Walked.{says, Stays, stay-slice, stay-none, stay-none-slice, gave-slice, walkOf, AllGo, goes-slice, goes-none, goes-none-slice, goes-gave-slice, Walks, ends-at, walked, walk-meets}
 use denote.Exit.{yes}
 use denote.Signature.{plain}
-use Rattle.columns.specs.declared.symbol.Symbol.{Symbol}
-use Rattle.columns.specs.Rows.{vacant, readFrom}
-use Rattle.tables.specs.Gathered.{gathered}
-use Rattle.tables.proofs.Guard.{holds, fails, by-test, guarded}
-use Rattle.columns.proofs.symbol.Symbol as R
-use Rattle.columns.proofs.symbol.Symbol.Laws as R′
-use Rattle.tables.proofs.Lending.{Flat, lent, Gather, zeros-typed, gathering, lends-columns, columns-back}
-use Rattle.tables.proofs.gather.Symbol as gather-def
-use Rattle.tables.proofs.gather.Symbol.{name as #gather}
-use Rattle.tables.proofs.gather.Met as gather-thm
-use Rattle.answers.specs.declared.flat.Answer.{Answer}
-use Rattle.answers.proofs.flat.Answer as B
-use Rattle.answers.proofs.flat.Answer.Laws as B′
-use Rattle.changes.specs.Changes.{outcome, changeOf, storeOf}
-use Rattle.operations.specs.declared.operation.Operation.{Operation}
-use Rattle.operations.specs.Operations.{ofOperation}
-use Rattle.changes.specs.declared.change.Change.{Change}
-use Rattle.changes.proofs.Outcomes.{answer-is, store-is, table-kept, table-set}
+use Rattle.symbol_columns.specs.declared.symbol.Symbol.{Symbol}
+use Rattle.symbol_columns.specs.Rows.{vacant, readFrom}
+use Rattle.symbol_lent.specs.Gathered.{gathered}
+use Rattle.symbol_lent.proofs.Guard.{holds, fails, by-test, guarded}
+use Rattle.symbol_columns.proofs.symbol.Symbol as R
+use Rattle.symbol_columns.proofs.symbol.Symbol.Laws as R′
+use Rattle.symbol_lent.proofs.Lending.{Flat, lent, Gather, zeros-typed, gathering, lends-columns, columns-back}
+use Rattle.symbol_lent.proofs.gather.Symbol as gather-def
+use Rattle.symbol_lent.proofs.gather.Symbol.{name as #gather}
+use Rattle.symbol_lent.proofs.gather.Met as gather-thm
+use Rattle.write_answer.specs.declared.answer.Answer.{Answer}
+use Rattle.write_answer.proofs.answer.Answer as B
+use Rattle.write_answer.proofs.answer.Answer.Laws as B′
+use Rattle.symbol_change.specs.Changes.{outcome, changeOf, storeOf}
+use Rattle.symbol_operations.specs.declared.operation.Operation.{Operation}
+use Rattle.symbol_operations.specs.Operations.{ofOperation}
+use Rattle.symbol_change.specs.declared.change.Change.{Change}
+use Rattle.symbol_change.proofs.Outcomes.{answer-is, store-is, table-kept, table-set}
 use Rattle.symbols.proofs.Whole.{change-same, store-same}
-use Rattle.operations.proofs.operation.Operation as O
-use Rattle.operations.proofs.operation.Operation.Laws as O′
-use Rattle.changes.proofs.change.Change as N
-use Rattle.changes.proofs.change.Change.Laws as N′
-use Rattle.changes.proofs.choose as choose
-use Rattle.changes.proofs.choose.Symbol as choose-def
-use Rattle.changes.proofs.choose.Symbol.{name as #choose}
-use Rattle.changes.proofs.choose.Met as choose-thm
+use Rattle.symbol_operations.proofs.operation.Operation as O
+use Rattle.symbol_operations.proofs.operation.Operation.Laws as O′
+use Rattle.symbol_change.proofs.change.Change as N
+use Rattle.symbol_change.proofs.change.Change.Laws as N′
+use Rattle.symbol_change.proofs.choose as choose
+use Rattle.symbol_change.proofs.choose.Symbol as choose-def
+use Rattle.symbol_change.proofs.choose.Symbol.{name as #choose}
+use Rattle.symbol_change.proofs.choose.Met as choose-thm
 use Rattle.symbols.proofs.change.change_symbol.Key.{name as #change-symbol}
 use Rattle.symbols.proofs.change.change_symbol as f
 use Rattle.symbols.proofs.change.change_symbol.Statement as stated
@@ -432,5 +432,5 @@ change-symbol-spec 𝓤 H 𝓜 𝓖 𝓡 =
     entered 𝓤 H (tripleOf 𝓤 H (𝓖 .A) f.signature (f.spec 𝓤 H (𝓖 .A) (𝓜 .mem) (𝓡 .run)))
     (tables 𝓤 H 𝓜 𝓡 code.env .C) (tables 𝓤 H 𝓜 𝓡 code.env .Λ) #change-symbol code.function (code.unfolded 𝓤 H 𝓜 𝓡)
     (meets 𝓤 H (𝓖 .A) (givenOf 𝓤 H 𝓜 𝓖) (𝓜 .mem) (𝓡 .run) (tablesOf 𝓤 H 𝓜 (tables 𝓤 H 𝓜 𝓡 code.env))
-    (cited 𝓤 H (Gather 𝓤 H (𝓖 .A) (𝓜 .mem) (𝓡 .run)) 𝓜 𝓡 code.env #gather gather-def.routine code.calls-tables·gather (gather-thm.met 𝓤 H 𝓜 𝓖 𝓡))
-    (cited 𝓤 H (Choose 𝓤 H (𝓖 .A) (𝓜 .mem) (𝓡 .run)) 𝓜 𝓡 code.env #choose choose-def.routine code.calls-changes·choose (choose-thm.met 𝓤 H 𝓜 𝓖 𝓡)))
+    (cited 𝓤 H (Gather 𝓤 H (𝓖 .A) (𝓜 .mem) (𝓡 .run)) 𝓜 𝓡 code.env #gather gather-def.routine code.calls-symbol-lent·gather (gather-thm.met 𝓤 H 𝓜 𝓖 𝓡))
+    (cited 𝓤 H (Choose 𝓤 H (𝓖 .A) (𝓜 .mem) (𝓡 .run)) 𝓜 𝓡 code.env #choose choose-def.routine code.calls-symbol-change·choose (choose-thm.met 𝓤 H 𝓜 𝓖 𝓡)))

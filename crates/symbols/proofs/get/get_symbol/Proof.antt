@@ -39,24 +39,24 @@ use denote.Triple.Table.{entered, cited}
 use denote.Triple.Walked.{says, Stays, stay-none, stay-none-slice, gave-ref, walkOf, goes-none, goes-none-slice, goes-gave-ref, Walks, ends-at, walked, walk-meets}
 use denote.Exit.{yes}
 use denote.Signature.{plain}
-use Rattle.columns.specs.declared.symbol.Symbol.{Symbol}
-use Rattle.columns.specs.Rows.{readFrom}
-use Rattle.tables.specs.Gathered.{gathered}
-use Rattle.columns.proofs.symbol.Symbol as R
-use Rattle.tables.proofs.Lending.{Flat, lent, Gather, zeros-typed, gathering, lends-columns, columns-back}
-use Rattle.tables.proofs.gather.Symbol as gather-def
-use Rattle.tables.proofs.gather.Symbol.{name as #gather}
-use Rattle.tables.proofs.gather.Met as gather-thm
-use Rattle.answers.specs.declared.flat.Answer.{Answer}
-use Rattle.answers.proofs.flat.Answer as B
-use Rattle.answers.proofs.flat.Answer.Laws as B′
-use Rattle.lookups.specs.Got.{Got}
-use Rattle.lookups.specs.Gets.{got, told, foundAfter}
+use Rattle.symbol_columns.specs.declared.symbol.Symbol.{Symbol}
+use Rattle.symbol_columns.specs.Rows.{readFrom}
+use Rattle.symbol_lent.specs.Gathered.{gathered}
+use Rattle.symbol_columns.proofs.symbol.Symbol as R
+use Rattle.symbol_lent.proofs.Lending.{Flat, lent, Gather, zeros-typed, gathering, lends-columns, columns-back}
+use Rattle.symbol_lent.proofs.gather.Symbol as gather-def
+use Rattle.symbol_lent.proofs.gather.Symbol.{name as #gather}
+use Rattle.symbol_lent.proofs.gather.Met as gather-thm
+use Rattle.write_answer.specs.declared.answer.Answer.{Answer}
+use Rattle.write_answer.proofs.answer.Answer as B
+use Rattle.write_answer.proofs.answer.Answer.Laws as B′
+use Rattle.symbol_get.specs.Got.{Got}
+use Rattle.symbol_get.specs.Gets.{got, told, foundAfter}
 use Rattle.symbols.proofs.Whole.{got-same}
-use Rattle.lookups.proofs.get_among as core
-use Rattle.lookups.proofs.get_among.Symbol as core-def
-use Rattle.lookups.proofs.get_among.Symbol.{name as #get-among}
-use Rattle.lookups.proofs.get_among.Met as core-thm
+use Rattle.symbol_get.proofs.get_among as core
+use Rattle.symbol_get.proofs.get_among.Symbol as core-def
+use Rattle.symbol_get.proofs.get_among.Symbol.{name as #get-among}
+use Rattle.symbol_get.proofs.get_among.Met as core-thm
 use Rattle.symbols.proofs.get.get_symbol.Key.{name as #get-symbol}
 use Rattle.symbols.proofs.get.get_symbol as f
 use Rattle.symbols.proofs.get.get_symbol.Statement as stated
@@ -273,5 +273,5 @@ get-symbol-spec 𝓤 H 𝓜 𝓖 𝓡 =
     entered 𝓤 H (tripleOf 𝓤 H (𝓖 .A) f.signature (f.spec 𝓤 H (𝓖 .A) (𝓜 .mem) (𝓡 .run)))
     (tables 𝓤 H 𝓜 𝓡 code.env .C) (tables 𝓤 H 𝓜 𝓡 code.env .Λ) #get-symbol code.function (code.unfolded 𝓤 H 𝓜 𝓡)
     (meets 𝓤 H (𝓖 .A) (givenOf 𝓤 H 𝓜 𝓖) (𝓜 .mem) (𝓡 .run) (tablesOf 𝓤 H 𝓜 (tables 𝓤 H 𝓜 𝓡 code.env))
-    (cited 𝓤 H (Gather 𝓤 H (𝓖 .A) (𝓜 .mem) (𝓡 .run)) 𝓜 𝓡 code.env #gather gather-def.routine code.calls-tables·gather (gather-thm.met 𝓤 H 𝓜 𝓖 𝓡))
-    (cited 𝓤 H (Core 𝓤 H (𝓖 .A) (𝓜 .mem) (𝓡 .run)) 𝓜 𝓡 code.env #get-among core-def.routine code.calls-lookups·get-among (core-thm.met 𝓤 H 𝓜 𝓖 𝓡)))
+    (cited 𝓤 H (Gather 𝓤 H (𝓖 .A) (𝓜 .mem) (𝓡 .run)) 𝓜 𝓡 code.env #gather gather-def.routine code.calls-symbol-lent·gather (gather-thm.met 𝓤 H 𝓜 𝓖 𝓡))
+    (cited 𝓤 H (Core 𝓤 H (𝓖 .A) (𝓜 .mem) (𝓡 .run)) 𝓜 𝓡 code.env #get-among core-def.routine code.calls-symbol-get·get-among (core-thm.met 𝓤 H 𝓜 𝓖 𝓡)))

@@ -34,23 +34,23 @@ use denote.Triple.Spec.{Meets}
 use denote.Triple.Clauses.{ensured, lasts}
 use denote.Triple.Call.{calls-at}
 use denote.Triple.Table.{entered, cited}
-use Rattle.columns.proofs.symbol.Symbol as T
-use Rattle.answers.specs.declared.flat.Answer.{Answer}
-use Rattle.answers.proofs.flat.Answer as R
-use Rattle.answers.proofs.flat.Answer.Laws as R′
-use Rattle.operations.specs.Operations as operations
-use Rattle.operations.specs.declared.operation.Operation.{Operation}
-use Rattle.operations.specs.declared.operation.Declared.{Declared}
-use Rattle.operations.specs.declared.operation.Declared.the-variants as declared
-use Rattle.operations.proofs.Coded.{coded, coded-by}
-use Rattle.operations.proofs.operation.Operation as O
-use Rattle.operations.proofs.operation.Operation.Laws as O′
-use Rattle.operations.proofs.operation.Declared as I
-use Rattle.operations.proofs.operation.Declared.Laws as I′
-use Rattle.operations.proofs.forward as k
-use Rattle.operations.proofs.forward.Symbol as forward-def
-use Rattle.operations.proofs.forward.Met as forward-thm
-use Rattle.tables.proofs.Pass.{Promised, spelt, at-spelt, Got, answered, handed-out}
+use Rattle.symbol_columns.proofs.symbol.Symbol as T
+use Rattle.write_answer.specs.declared.answer.Answer.{Answer}
+use Rattle.write_answer.proofs.answer.Answer as R
+use Rattle.write_answer.proofs.answer.Answer.Laws as R′
+use Rattle.symbol_operations.specs.Operations as operations
+use Rattle.symbol_operations.specs.declared.operation.Operation.{Operation}
+use Rattle.symbol_operations.specs.declared.operation.Declared.{Declared}
+use Rattle.symbol_operations.specs.declared.operation.Declared.the-variants as declared
+use Rattle.symbol_operations.proofs.Coded.{coded, coded-by}
+use Rattle.symbol_operations.proofs.operation.Operation as O
+use Rattle.symbol_operations.proofs.operation.Operation.Laws as O′
+use Rattle.symbol_operations.proofs.operation.Declared as I
+use Rattle.symbol_operations.proofs.operation.Declared.Laws as I′
+use Rattle.symbol_operations.proofs.forward as k
+use Rattle.symbol_operations.proofs.forward.Symbol as forward-def
+use Rattle.symbol_operations.proofs.forward.Met as forward-thm
+use Rattle.symbol_lent.proofs.Pass.{Promised, spelt, at-spelt, Got, answered, handed-out}
 use Rattle.symbols.proofs.change.change_symbol as g
 use Rattle.symbols.proofs.change.change_symbol.Symbol as callee
 use Rattle.symbols.proofs.change.change_symbol.Met as callee-thm
@@ -161,5 +161,5 @@ unfolding code.routine tablesOf
 forward-declare-symbol-spec 𝓤 H 𝓜 𝓖 𝓡 =
     entered 𝓤 H (P 𝓤 H (𝓖 .A) (givenOf 𝓤 H 𝓜 𝓖) (𝓜 .mem) (𝓡 .run)) (tables 𝓤 H 𝓜 𝓡 code.env .C) (tables 𝓤 H 𝓜 𝓡 code.env .Λ) key.name code.function (code.unfolded 𝓤 H 𝓜 𝓡)
     (meets 𝓤 H (𝓖 .A) (givenOf 𝓤 H 𝓜 𝓖) (𝓜 .mem) (𝓡 .run) (tablesOf 𝓤 H 𝓜 (tables 𝓤 H 𝓜 𝓡 code.env))
-    (cited 𝓤 H (K 𝓤 H (𝓖 .A) (givenOf 𝓤 H 𝓜 𝓖) (𝓜 .mem) (𝓡 .run)) 𝓜 𝓡 code.env forward-def.name forward-def.routine code.calls-operations·forward (forward-thm.met 𝓤 H 𝓜 𝓖 𝓡))
+    (cited 𝓤 H (K 𝓤 H (𝓖 .A) (givenOf 𝓤 H 𝓜 𝓖) (𝓜 .mem) (𝓡 .run)) 𝓜 𝓡 code.env forward-def.name forward-def.routine code.calls-symbol-operations·forward (forward-thm.met 𝓤 H 𝓜 𝓖 𝓡))
     (cited 𝓤 H (Q 𝓤 H (𝓖 .A) (givenOf 𝓤 H 𝓜 𝓖) (𝓜 .mem) (𝓡 .run)) 𝓜 𝓡 code.env callee.name callee.routine code.calls-symbols·change·change-symbol (callee-thm.met 𝓤 H 𝓜 𝓖 𝓡)))

@@ -41,18 +41,18 @@ use denote.Triple.Spec.{Meets}
 use denote.Triple.Clauses.{Lasts, lasts, atExit}
 use denote.Triple.Call.{calls-at}
 use denote.Triple.Table.{entered, cited}
-use Rattle.columns.proofs.symbol.Symbol as T
-use Rattle.answers.specs.declared.flat.Answer.{Answer}
-use Rattle.answers.proofs.flat.Answer as R
-use Rattle.answers.proofs.flat.Answer.Laws as R′
-use Rattle.operations.specs.declared.operation.Operation.{Operation}
-use Rattle.operations.specs.declared.operation.Operation.the-variants.{PutPoison}
-use Rattle.operations.proofs.operation.Operation as O
-use Rattle.operations.proofs.operation.Operation.Laws as O′
+use Rattle.symbol_columns.proofs.symbol.Symbol as T
+use Rattle.write_answer.specs.declared.answer.Answer.{Answer}
+use Rattle.write_answer.proofs.answer.Answer as R
+use Rattle.write_answer.proofs.answer.Answer.Laws as R′
+use Rattle.symbol_operations.specs.declared.operation.Operation.{Operation}
+use Rattle.symbol_operations.specs.declared.operation.Operation.the-variants.{PutPoison}
+use Rattle.symbol_operations.proofs.operation.Operation as O
+use Rattle.symbol_operations.proofs.operation.Operation.Laws as O′
 use Rattle.symbols.proofs.change.change_symbol as g
 use Rattle.symbols.proofs.change.change_symbol.Symbol as callee
 use Rattle.symbols.proofs.change.change_symbol.Met as callee-thm
-use Rattle.tables.proofs.Pass.{Promised, spelt, at-spelt, Got, answered, handed-out}
+use Rattle.symbol_lent.proofs.Pass.{Promised, spelt, at-spelt, Got, answered, handed-out}
 use Rattle.symbols.proofs.put.poison_symbol.Key as key
 use Rattle.symbols.proofs.put.poison_symbol as f
 use Rattle.symbols.proofs.put.poison_symbol.Statement as stated

@@ -27,12 +27,12 @@ use denote.Triple.Statement.{Contract, Triple}
 use denote.Triple.Spec.{Meets}
 use denote.Triple.Call.{calls-at}
 use denote.Triple.Table.{entered, cited}
-use Rattle.columns.proofs.symbol.Symbol as T
-use Rattle.reports.proofs.report.Report as R
-use Rattle.reports.proofs.report.Report.Laws as R′
+use Rattle.symbol_columns.proofs.symbol.Symbol as T
+use Rattle.plan_report.proofs.report.Report as R
+use Rattle.plan_report.proofs.report.Report.Laws as R′
 use Rattle.planner.proofs.autoderef.Symbol as callee
 use Rattle.planner.proofs.autoderef.Met as callee-thm
-use Rattle.tables.proofs.Pass.{Promised, spelt, at-spelt, answered, handed-out}
+use Rattle.symbol_lent.proofs.Pass.{Promised, spelt, at-spelt, answered, handed-out}
 use Rattle.trestlejay.proofs.plans.tj_autoderef.Key as key
 use Rattle.trestlejay.proofs.plans.tj_autoderef as f
 use Rattle.trestlejay.proofs.plans.tj_autoderef.Statement as stated

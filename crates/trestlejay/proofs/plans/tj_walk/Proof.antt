@@ -27,12 +27,12 @@ use denote.Triple.Statement.{Contract, Triple}
 use denote.Triple.Spec.{Meets}
 use denote.Triple.Call.{calls-at}
 use denote.Triple.Table.{entered, cited}
-use Rattle.columns.proofs.symbol.Symbol as T
-use Rattle.answers.proofs.flat.Answer as R
-use Rattle.answers.proofs.flat.Answer.Laws as R′
-use Rattle.walks.proofs.walk.Symbol as callee
-use Rattle.walks.proofs.walk.Met as callee-thm
-use Rattle.tables.proofs.Pass.{Promised, spelt, at-spelt, answered, handed-out}
+use Rattle.symbol_columns.proofs.symbol.Symbol as T
+use Rattle.write_answer.proofs.answer.Answer as R
+use Rattle.write_answer.proofs.answer.Answer.Laws as R′
+use Rattle.walker_run.proofs.walk.Symbol as callee
+use Rattle.walker_run.proofs.walk.Met as callee-thm
+use Rattle.symbol_lent.proofs.Pass.{Promised, spelt, at-spelt, answered, handed-out}
 use Rattle.trestlejay.proofs.plans.tj_walk.Key as key
 use Rattle.trestlejay.proofs.plans.tj_walk as f
 use Rattle.trestlejay.proofs.plans.tj_walk.Statement as stated
@@ -79,4 +79,4 @@ unfolding code.routine tablesOf
 tj-walk-spec 𝓤 H 𝓜 𝓖 𝓡 =
     entered 𝓤 H (P 𝓤 H (𝓖 .A) (givenOf 𝓤 H 𝓜 𝓖) (𝓜 .mem) (𝓡 .run)) (tables 𝓤 H 𝓜 𝓡 code.env .C) (tables 𝓤 H 𝓜 𝓡 code.env .Λ) key.name code.function (code.unfolded 𝓤 H 𝓜 𝓡)
     (meets 𝓤 H (𝓖 .A) (givenOf 𝓤 H 𝓜 𝓖) (𝓜 .mem) (𝓡 .run) (tablesOf 𝓤 H 𝓜 (tables 𝓤 H 𝓜 𝓡 code.env))
-    (cited 𝓤 H (P 𝓤 H (𝓖 .A) (givenOf 𝓤 H 𝓜 𝓖) (𝓜 .mem) (𝓡 .run)) 𝓜 𝓡 code.env callee.name callee.routine code.calls-walks·walk (callee-thm.met 𝓤 H 𝓜 𝓖 𝓡)))
+    (cited 𝓤 H (P 𝓤 H (𝓖 .A) (givenOf 𝓤 H 𝓜 𝓖) (𝓜 .mem) (𝓡 .run)) 𝓜 𝓡 code.env callee.name callee.routine code.calls-walker-run·walk (callee-thm.met 𝓤 H 𝓜 𝓖 𝓡)))

@@ -27,12 +27,12 @@ use denote.Triple.Statement.{Contract, Triple}
 use denote.Triple.Spec.{Meets}
 use denote.Triple.Call.{calls-at}
 use denote.Triple.Table.{entered, cited}
-use Rattle.columns.proofs.symbol.Symbol as T
-use Rattle.answers.proofs.flat.Answer as R
-use Rattle.answers.proofs.flat.Answer.Laws as R′
+use Rattle.symbol_columns.proofs.symbol.Symbol as T
+use Rattle.write_answer.proofs.answer.Answer as R
+use Rattle.write_answer.proofs.answer.Answer.Laws as R′
 use Rattle.symbols.proofs.get_symbol.Symbol as callee
 use Rattle.symbols.proofs.get_symbol.Met as callee-thm
-use Rattle.tables.proofs.Pass.{Promised, spelt, at-spelt, answered, handed-out}
+use Rattle.symbol_lent.proofs.Pass.{Promised, spelt, at-spelt, answered, handed-out}
 use Rattle.trestlejay.proofs.records.tj_get_symbol.Key as key
 use Rattle.trestlejay.proofs.records.tj_get_symbol as f
 use Rattle.trestlejay.proofs.records.tj_get_symbol.Statement as stated

@@ -28,12 +28,12 @@ use denote.Triple.Statement.{Contract, Triple}
 use denote.Triple.Spec.{Meets}
 use denote.Triple.Call.{calls-at}
 use denote.Triple.Table.{entered, cited}
-use Rattle.columns.proofs.symbol.Symbol as T
-use Rattle.answers.proofs.flat.Answer as R
-use Rattle.answers.proofs.flat.Answer.Laws as R′
-use Rattle.lone.proofs.do_update_symbol.Symbol as callee
-use Rattle.lone.proofs.do_update_symbol.Met as callee-thm
-use Rattle.tables.proofs.Pass.{Promised, spelt, at-spelt, answered, handed-out}
+use Rattle.symbol_columns.proofs.symbol.Symbol as T
+use Rattle.write_answer.proofs.answer.Answer as R
+use Rattle.write_answer.proofs.answer.Answer.Laws as R′
+use Rattle.symbol_update_lone.proofs.do_update_symbol.Symbol as callee
+use Rattle.symbol_update_lone.proofs.do_update_symbol.Met as callee-thm
+use Rattle.symbol_lent.proofs.Pass.{Promised, spelt, at-spelt, answered, handed-out}
 use Rattle.trestlejay.proofs.records.tj_update_symbol.Key as key
 use Rattle.trestlejay.proofs.records.tj_update_symbol as f
 use Rattle.trestlejay.proofs.records.tj_update_symbol.Statement as stated
@@ -80,4 +80,4 @@ unfolding code.routine tablesOf
 tj-update-symbol-spec 𝓤 H 𝓜 𝓖 𝓡 =
     entered 𝓤 H (P 𝓤 H (𝓖 .A) (givenOf 𝓤 H 𝓜 𝓖) (𝓜 .mem) (𝓡 .run)) (tables 𝓤 H 𝓜 𝓡 code.env .C) (tables 𝓤 H 𝓜 𝓡 code.env .Λ) key.name code.function (code.unfolded 𝓤 H 𝓜 𝓡)
     (meets 𝓤 H (𝓖 .A) (givenOf 𝓤 H 𝓜 𝓖) (𝓜 .mem) (𝓡 .run) (tablesOf 𝓤 H 𝓜 (tables 𝓤 H 𝓜 𝓡 code.env))
-    (cited 𝓤 H (P 𝓤 H (𝓖 .A) (givenOf 𝓤 H 𝓜 𝓖) (𝓜 .mem) (𝓡 .run)) 𝓜 𝓡 code.env callee.name callee.routine code.calls-lone·do-update-symbol (callee-thm.met 𝓤 H 𝓜 𝓖 𝓡)))
+    (cited 𝓤 H (P 𝓤 H (𝓖 .A) (givenOf 𝓤 H 𝓜 𝓖) (𝓜 .mem) (𝓡 .run)) 𝓜 𝓡 code.env callee.name callee.routine code.calls-symbol-update-lone·do-update-symbol (callee-thm.met 𝓤 H 𝓜 𝓖 𝓡)))

@@ -1,4 +1,0 @@
-// Writing to words that were lent.
-mod write;
-
-pub use write::write_words;

@@ -1,5 +1,0 @@
-// Extern fixing: what a declared type becomes by its flags and the context that it stands in.
-mod external;
-mod flags;
-
-pub use flags::fix_type_for_flags;

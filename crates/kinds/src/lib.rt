@@ -1,4 +1,0 @@
-// The kinds of layers.
-mod kinds;
-
-pub use kinds::Kind;

@@ -1,7 +1,0 @@
-use Rattle.moves.proofs.Acting.{counts-as-arraylike, counts-as-it-is}
-use borrow.Author.Needs.{needs}
-use Rattle.moves.proofs.motion.kind_of.Statement.{statement}
-use Rattle.moves.proofs.motion.kind_of.Tie as tie
-
-pub kind-of-spec : {M : Type 1} → statement M
-kind-of-spec = tie.close (tie.spec (λ c. search counts-as-arraylike) (λ c κs. search needs) (λ c. search counts-as-it-is))

@@ -1,4 +1,0 @@
-// What a declared type becomes that is not extern.
-mod plain;
-
-pub use plain::fix_plain;

@@ -1,7 +1,0 @@
-use borrow.Author.Needs.{needs}
-use Rattle.outputs.proofs.Outcomes.{whole, whole-length}
-use Rattle.outputs.proofs.delivery.whole_layers.Statement.{statement}
-use Rattle.outputs.proofs.delivery.whole_layers.Tie as tie
-
-pub whole-layers-spec : {M : Type 1} → statement M
-whole-layers-spec = tie.close (tie.spec (λ c. search needs) (λ c. search whole-length) (λ c. search whole))

@@ -1,7 +1,0 @@
-use borrow.Author.Needs.{needs}
-use Rattle.parts.proofs.Dereferenced.{element-is}
-use Rattle.parts.proofs.inside.get_element_type.Statement.{statement}
-use Rattle.parts.proofs.inside.get_element_type.Tie as tie
-
-pub get-element-type-spec : {M : Type 1} → statement M
-get-element-type-spec = tie.close (tie.spec (λ c κs. search needs) (λ c κs. search needs) (λ c κs. search needs) (λ c. search element-is))

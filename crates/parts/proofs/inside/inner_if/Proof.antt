@@ -1,7 +1,0 @@
-use borrow.Author.Needs.{needs}
-use Rattle.parts.proofs.Dereferenced.{there, gone}
-use Rattle.parts.proofs.inside.inner_if.Statement.{statement}
-use Rattle.parts.proofs.inside.inner_if.Tie as tie
-
-pub inner-if-spec : {M : Type 1} → statement M
-inner-if-spec = tie.close (tie.spec (λ c κs. search needs) (λ c. search there) (λ c. search needs) (λ c. search gone))

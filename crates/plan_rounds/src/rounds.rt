@@ -1,0 +1,88 @@
+use crate::finish::finish;
+use crate::round::onto;
+use crate::round::push;
+use crate::round::took;
+use crate::round::turn_at;
+use plan_report::Report;
+use plan_report::refuse;
+use plan_turn::Turn;
+use type_wellformed::is_wellformed;
+ghost use mathlib.Core.Path.{_≡_};
+ghost use Prim.Native.Nat.{_≤_, _*_};
+ghost use lib.ListN.{length, drop};
+ghost use Rattle.type_layers.specs.Layers.{Whole};
+ghost use Rattle.walker_rule.specs.Members.{memberIn};
+ghost use Rattle.plan_report.specs.Report as report;
+ghost use Rattle.plan_rounds.specs.Walked.{AllWhole, walked};
+
+// The steps after the first k.
+fn after(q: &[u64], k: usize) -> &[u64]
+    requires { ⌜ k ≤ 1 ⌝ }
+    ensures { λ r. ⌜ now r ≡ drop (4 * k) (now (q .entry)) ⌝ }
+{
+    let at = 4 * k;
+    if at <= q.len() {
+        &q[at..]
+    } else {
+        &q[q.len()..]
+    }
+}
+
+// Walks from the known type along the asked steps, at most so many rounds, left as soon as no asked step is left; then
+// settles. The run has room for all the steps: 64 rounds add at most two each, and the settling at most 16.
+pub fn walk_asked<'a>(
+    flat: &[u64; 768],
+    count: usize,
+    store: &'a [u64],
+    known: &'a [u64],
+    asked: &[u64],
+    target: &'a [u64],
+    level: u64,
+    rounds: u64,
+    steps: &mut [u64],
+    ty: &mut [u64],
+) -> Report
+    requires { ⌜ Whole (now known) × Whole (now target) × (level ≤ 255) × (rounds ≤ 64) ⌝ }
+    requires { ⌜ AllWhole (memberIn (now flat) count (now store)) ⌝ }
+    ensures answer { λ r. ⌜ r ≡ report.told (walked (memberIn (now (flat .entry)) count (now (store .entry))) (now (known .entry)) (now (asked .entry)) (now (target .entry)) level rounds (length (now (steps .entry))) (length (now (ty .entry)))) ⌝ }
+    ensures written { λ _. ⌜ now (steps .exit) ≡ report.stepsOver (walked (memberIn (now (flat .entry)) count (now (store .entry))) (now (known .entry)) (now (asked .entry)) (now (target .entry)) level rounds (length (now (steps .entry))) (length (now (ty .entry)))) (now (steps .entry)) ⌝ }
+    ensures reported { λ _. ⌜ now (ty .exit) ≡ report.typeOver (walked (memberIn (now (flat .entry)) count (now (store .entry))) (now (known .entry)) (now (asked .entry)) (now (target .entry)) level rounds (length (now (steps .entry))) (length (now (ty .entry)))) (now (ty .entry)) ⌝ }
+{
+    let mut buf = [0u64; 576];
+    let mut cur = known;
+    let mut rest = asked;
+    let mut i = 0;
+    let mut n = 0;
+    let mut taken = 0;
+    while i < rounds {
+        if rest.len() < 4 {
+            break;
+        }
+        i += 1;
+        let t = turn_at(cur, rest);
+        let next = onto(flat, count, store, cur, rest, t);
+        match t {
+            Turn::Stuck => {
+                return refuse(8, 0);
+            }
+            Turn::Auto(_) => {}
+            Turn::Element { mark: _, layers: _ } => {}
+            Turn::Desliced(_) => {}
+            Turn::Member => {
+                if next.len() < 3 {
+                    return refuse(11, 0);
+                }
+                if !is_wellformed(next) {
+                    return refuse(4, 0);
+                }
+            }
+        }
+        n = push(&mut buf, n, rest, t);
+        let k = took(t);
+        taken += k;
+        cur = next;
+        let left = after(rest, k);
+        rest = left;
+    }
+    finish(cur, target, level, n, taken as u64, &mut buf, steps, ty)
+}

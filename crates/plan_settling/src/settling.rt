@@ -1,0 +1,84 @@
+use relation_coerces::can_coerce_address_into;
+use relation_coerces::can_coerce_into;
+use relation_equals::identical;
+use type_layers::inner;
+use type_layers::outer;
+use type_numbers::Kind;
+use type_size_and_depth::depth;
+ghost use mathlib.Core.Path.{_≡_};
+ghost use Rattle.type_layers.specs.Layers.{layers};
+ghost use Rattle.plan_settling.specs.Settling as rules;
+
+// How a walk is settled: the line that applies, and of the last line what it comes to.
+pub enum Settling {
+    // (i) The current type, without a step.
+    Identical,
+    // (ii) By Autoview, to the target.
+    Viewed,
+    // (iii) The current type, which coerces into the target.
+    Coerced,
+    // (iv) The current type, a SlicePointer.
+    SlicePointer,
+    // (v) The current type's address, which is the target.
+    PointedTo,
+    // (vi) The current type's address, which coerces into the target.
+    AddressCoerced,
+    // (vii) The current type's address.
+    Addressed,
+    // (vii) The current type fully dereferenced, under as many Pointers as the address depth.
+    Dereferenced,
+    // (vii) A refusal's number.
+    Refused(u64),
+}
+
+// The last line, (vii).
+fn settle_otherwise(c: &[u64], n: u64) -> Settling
+    ensures { λ r. ⌜ rules.Otherwise r (layers (now (c .entry))) n ⌝ }
+{
+    let p = depth(c);
+    if n > p {
+        if n - p >= 2 {
+            return Settling::Refused(9);
+        }
+        return Settling::Addressed;
+    }
+    if outer(c) == Kind::SLICE_POINTER {
+        return Settling::Refused(10);
+    }
+    Settling::Dereferenced
+}
+
+// Settles the current type c to the target t at the address depth n, by the first line that applies.
+pub fn settle(c: &[u64], t: &[u64], n: u64) -> Settling
+    ensures { λ r. ⌜ rules.Settles r (layers (now (c .entry))) (layers (now (t .entry))) n ⌝ }
+{
+    let plainly = (n == 0) & (depth(t) == 0);
+    let k = outer(c);
+    let same = identical(c, t);
+    // (i)
+    if plainly & same {
+        return Settling::Identical;
+    }
+    // (ii)
+    if plainly & (k == Kind::VIEW) & identical(inner(c), t) {
+        return Settling::Viewed;
+    }
+    // (iii)
+    if plainly & can_coerce_into(c, t) {
+        return Settling::Coerced;
+    }
+    // (iv)
+    if (n == 1) & (k == Kind::SLICE_POINTER) & same {
+        return Settling::SlicePointer;
+    }
+    // (v)
+    if (n > 0) & (outer(t) == Kind::POINTER) & identical(inner(t), c) {
+        return Settling::PointedTo;
+    }
+    // (vi)
+    if (n > 0) & can_coerce_address_into(c, t) {
+        return Settling::AddressCoerced;
+    }
+    // (vii)
+    settle_otherwise(c, n)
+}

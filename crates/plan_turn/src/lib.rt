@@ -1,0 +1,6 @@
+// What one round of the walk decides.
+mod decide_turn;
+mod turn;
+
+pub use decide_turn::turn_of;
+pub use turn::Turn;

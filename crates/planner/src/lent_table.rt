@@ -1,0 +1,40 @@
+use crate::plan_checks::plan_among;
+use plan_report::Report;
+use symbol_columns::Symbol;
+use symbol_lent::gather;
+ghost use mathlib.Core.Path.{_≡_};
+ghost use lib.ListN.{length};
+ghost use Rattle.plan_report.specs.Report as report;
+ghost use Rattle.planner.specs.Answers as answers;
+
+// Plans the asked steps from the known type, and writes the plan's steps and its reported type.
+pub fn autoderef<'a>(
+    known: &'a [u64],
+    asked: &[u64],
+    target: &'a [u64],
+    level: u8,
+    rounds: u64,
+    table: &[Symbol],
+    store: &'a [u64],
+    steps: &mut [u64],
+    ty: &mut [u64],
+) -> Report
+    ensures { λ r. ⌜ (r ≡ report.told (answers.planAnswer (now (table .entry)) (now (store .entry)) (now (known .entry)) (now (asked .entry)) (now (target .entry)) level rounds (length (now (steps .entry))) (length (now (ty .entry)))))
+        × (now (steps .exit) ≡ report.stepsOver (answers.planAnswer (now (table .entry)) (now (store .entry)) (now (known .entry)) (now (asked .entry)) (now (target .entry)) level rounds (length (now (steps .entry))) (length (now (ty .entry)))) (now (steps .entry)))
+        × (now (ty .exit) ≡ report.typeOver (answers.planAnswer (now (table .entry)) (now (store .entry)) (now (known .entry)) (now (asked .entry)) (now (target .entry)) level rounds (length (now (steps .entry))) (length (now (ty .entry)))) (now (ty .entry))) ⌝ }
+{
+    let mut columns = [0u64; 768];
+    gather(table, &mut columns);
+    plan_among(
+        &columns,
+        table.len(),
+        store,
+        known,
+        asked,
+        target,
+        level,
+        rounds,
+        steps,
+        ty,
+    )
+}

@@ -1,0 +1,121 @@
+use plan_report::Report;
+use plan_report::refuse;
+use plan_rounds::walk_asked;
+use plan_steps::check_steps;
+use symbol_order::in_order;
+use type_first_refusal::check_type;
+use type_layers::Checked;
+use type_wellformed::is_wellformed;
+ghost use mathlib.Core.Path.{_≡_};
+ghost use Prim.Native.Nat.{_≤_};
+ghost use lib.ListN.{length};
+ghost use Rattle.type_layers.specs.Answer.{ofChecked};
+ghost use Rattle.type_layers.specs.Layers.{Whole};
+ghost use Rattle.symbol_columns.specs.Rows.{readFrom};
+ghost use Rattle.plan_report.specs.Report as report;
+ghost use Rattle.planner.specs.Answers as answers;
+
+// The most asked steps, and the most rounds.
+const STEPS: u64 = 32;
+
+const ROUNDS: u64 = 64;
+
+fn check_limits(asked: &[u64], rounds: u64) -> Checked
+    ensures { λ r. ⌜ ofChecked r ≡ answers.limits (now (asked .entry)) rounds ⌝ }
+{
+    if rounds > ROUNDS {
+        return Checked::Refused {
+            number: 5,
+            place: 0,
+        };
+    }
+    check_steps(asked, STEPS)
+}
+
+// The checks of the types, the asked steps and the rounds.
+fn check_question(known: &[u64], asked: &[u64], target: &[u64], rounds: u64) -> Checked
+    ensures { λ r. ⌜ ofChecked r ≡ answers.question (now (known .entry)) (now (asked .entry)) (now (target .entry)) rounds ⌝ }
+{
+    match check_type(known) {
+        Checked::Refused { number, place } => Checked::Refused { number, place },
+        Checked::Good(_) => match check_type(target) {
+            Checked::Refused { number, place } => Checked::Refused { number, place },
+            Checked::Good(_) => check_limits(asked, rounds),
+        },
+    }
+}
+
+// The plan of a question that passed its checks.
+fn plan_checked<'a>(
+    flat: &[u64; 768],
+    count: usize,
+    store: &'a [u64],
+    known: &'a [u64],
+    asked: &[u64],
+    target: &'a [u64],
+    level: u8,
+    rounds: u64,
+    steps: &mut [u64],
+    ty: &mut [u64],
+) -> Report
+    requires { ⌜ Whole (now known) × Whole (now target) × (rounds ≤ 64) ⌝ }
+    ensures answer { λ r. ⌜ r ≡ report.told (answers.planned (readFrom (now (flat .entry)) 0 count) (now (store .entry)) (now (known .entry)) (now (asked .entry)) (now (target .entry)) level rounds (length (now (steps .entry))) (length (now (ty .entry)))) ⌝ }
+    ensures written { λ _. ⌜ now (steps .exit) ≡ report.stepsOver (answers.planned (readFrom (now (flat .entry)) 0 count) (now (store .entry)) (now (known .entry)) (now (asked .entry)) (now (target .entry)) level rounds (length (now (steps .entry))) (length (now (ty .entry)))) (now (steps .entry)) ⌝ }
+    ensures reported { λ _. ⌜ now (ty .exit) ≡ report.typeOver (answers.planned (readFrom (now (flat .entry)) 0 count) (now (store .entry)) (now (known .entry)) (now (asked .entry)) (now (target .entry)) level rounds (length (now (steps .entry))) (length (now (ty .entry)))) (now (ty .entry)) ⌝ }
+{
+    if !in_order(flat, count, store) {
+        return refuse(12, 0);
+    }
+    if !is_wellformed(known) {
+        return refuse(4, 0);
+    }
+    if !is_wellformed(target) {
+        return refuse(4, 0);
+    }
+    walk_asked(
+        flat,
+        count,
+        store,
+        known,
+        asked,
+        target,
+        level as u64,
+        rounds,
+        steps,
+        ty,
+    )
+}
+
+// The plan of a question about a table that is given by its columns, as gather makes them.
+pub fn plan_among<'a>(
+    flat: &[u64; 768],
+    count: usize,
+    store: &'a [u64],
+    known: &'a [u64],
+    asked: &[u64],
+    target: &'a [u64],
+    level: u8,
+    rounds: u64,
+    steps: &mut [u64],
+    ty: &mut [u64],
+) -> Report
+    ensures answer { λ r. ⌜ r ≡ report.told (answers.planAnswer (readFrom (now (flat .entry)) 0 count) (now (store .entry)) (now (known .entry)) (now (asked .entry)) (now (target .entry)) level rounds (length (now (steps .entry))) (length (now (ty .entry)))) ⌝ }
+    ensures written { λ _. ⌜ now (steps .exit) ≡ report.stepsOver (answers.planAnswer (readFrom (now (flat .entry)) 0 count) (now (store .entry)) (now (known .entry)) (now (asked .entry)) (now (target .entry)) level rounds (length (now (steps .entry))) (length (now (ty .entry)))) (now (steps .entry)) ⌝ }
+    ensures reported { λ _. ⌜ now (ty .exit) ≡ report.typeOver (answers.planAnswer (readFrom (now (flat .entry)) 0 count) (now (store .entry)) (now (known .entry)) (now (asked .entry)) (now (target .entry)) level rounds (length (now (steps .entry))) (length (now (ty .entry)))) (now (ty .entry)) ⌝ }
+{
+    match check_question(known, asked, target, rounds) {
+        Checked::Refused { number, place } => refuse(number, place),
+        Checked::Good(_) => plan_checked(
+            flat,
+            count,
+            store,
+            known,
+            asked,
+            target,
+            level,
+            rounds,
+            steps,
+            ty,
+        ),
+    }
+}

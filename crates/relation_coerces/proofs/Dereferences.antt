@@ -1,0 +1,93 @@
+-- Sub-autoderefs and autoderefs, by what the code tested.
+-- Assumes nothing.
+use mathlib.Core.Path.{_≡_, refl, sym, _∙_}
+use mathlib.Core.Bool.{Bool, true, false, _&&_, _||_, or-true, or-false, false≢true}
+use mathlib.Core.List.{List, [], _∷_}
+use Prim.Native.Nat.{ℕ, _≤_, _<_}
+use lib.Dec.{eqb}
+use lib.ListN.{length, getD}
+use borrow.Author.Tests.{eq-eqb, ne-eqb}
+use Rattle.type_numbers.specs.Kind as kind
+use Rattle.type_layers.specs.Layers.{Layer, layers, outer, inside, innerWords, isReference}
+use Rattle.type_layers.proofs.Words.{rest, none, more, inner-layers}
+use Rattle.relation_equals.specs.Equalities.{equals}
+use Rattle.relation_coerces.specs.Coercions.{coerces, addressCoerces, subautoderefs, isArrayOrStruct, viewAutoderefs, pointerAutoderefs, autoderefs}
+
+-- "or", where the code holds the first test's outcome
+pub or-yes : (f x y : Bool) → f ≡ x → f ≡ true → f ≡ (x || y)
+or-yes f x y e t = rw (← e, t)
+
+pub or-no : (f x y r : Bool) → f ≡ x → f ≡ false → r ≡ y → r ≡ (x || y)
+or-no f x y r e t s = rw (← e, t) s
+
+-- sub-autoderefs: a View or a Pointer, whose inner type is the words from the fourth on
+module _ (a b : List ℕ) where
+  pub sub-none : length a < 3 → false ≡ subautoderefs (layers a) (layers b)
+  unfolding subautoderefs
+  sub-none h = rw (none a)
+
+  module _ (h : 3 ≤ length a) where
+    pub sub-other : isReference (getD a 0 0) ≡ false → false ≡ subautoderefs (layers a) (layers b)
+    unfolding subautoderefs
+    sub-other e = rw (more a, e)
+
+    module _ (e : isReference (getD a 0 0) ≡ true) (f : Bool) (p : f ≡ equals (layers (rest a)) (layers b)) where
+      pub sub-equal : f ≡ true → true ≡ subautoderefs (layers a) (layers b)
+      unfolding subautoderefs
+      sub-equal t = rw (more a, e, ← p, t)
+
+      module _ (s : f ≡ false) (g : Bool) (q : g ≡ subautoderefs (layers (rest a)) (layers b)) where
+        pub sub-inside : g ≡ true → true ≡ subautoderefs (layers a) (layers b)
+        unfolding subautoderefs
+        sub-inside t = rw (more a, e, ← p, s, ← q, t)
+
+        module _ (t : g ≡ false) (k : ℕ) (w : k ≡ outer (layers b)) where
+          pub sub-held : k ≡ getD a 0 0 → (c : List ℕ) (r : Bool) → c ≡ innerWords b →
+              r ≡ subautoderefs (layers (rest a)) (layers c) → r ≡ subautoderefs (layers a) (layers b)
+          unfolding subautoderefs
+          sub-held u c r i j = rw (more a, e, ← p, s, ← q, t, ← w, eq-eqb k (getD a 0 0) u, ← inner-layers b, ← i) j
+
+          pub sub-no-other : (k ≡ getD a 0 0 → ⊥) → eqb k (getD a 0 0) ≡ subautoderefs (layers a) (layers b)
+          unfolding subautoderefs
+          sub-no-other u = rw (more a, e, ← p, s, ← q, t, ← w, ne-eqb k (getD a 0 0) u)
+
+-- the lines that autoderefs has for a View and a Pointer are "a equals b", here u, and those of sub-autoderefs
+grouped : (u v w z : Bool) → (u || (v || w || z)) ≡ (u || v || w || z)
+grouped true v w z = refl
+grouped false v w z = refl
+
+lines : (k : ℕ) (a b : List Layer) (u : Bool) → outer a ≡ k → isReference k ≡ true →
+    (u || equals (inside a) b || subautoderefs (inside a) b || eqb (outer b) k && subautoderefs (inside a) (inside b))
+    ≡ (u || subautoderefs a b)
+unfolding outer inside subautoderefs
+lines k [] b u e t = absurd (false≢true (rw (← e) at t))
+lines k (x ∷ d) b u e t = rw (e, t) (sym (grouped u _ _ _))
+
+-- k is the outer kind of a
+module _ (a b : List ℕ) (k : ℕ) (f : Bool) (p : k ≡ outer (layers a)) (e : f ≡ isArrayOrStruct k) where
+  pub auto-array : (r : Bool) → f ≡ true → r ≡ (equals (layers a) (layers b) || coerces (layers a) (layers b)) →
+      r ≡ autoderefs (layers a) (layers b)
+  unfolding autoderefs
+  auto-array r t s = rw (← p, ← e, t) s
+
+  module _ (n : f ≡ false) where
+    pub auto-view : (r : Bool) → k ≡ kind.view → r ≡ (equals (layers a) (layers b) || subautoderefs (layers a) (layers b)) →
+        r ≡ autoderefs (layers a) (layers b)
+    unfolding autoderefs viewAutoderefs
+    auto-view r t s = rw (← p, ← e, n, t, lines kind.view (layers a) (layers b) (equals (layers a) (layers b)) (sym p ∙ t) refl) s
+
+    module _ (t : k ≡ kind.pointer) (d : List ℕ) (i : d ≡ innerWords a) (g : Bool) (q : g ≡ addressCoerces (layers d) (layers b)) where
+      pub auto-address : g ≡ true → true ≡ autoderefs (layers a) (layers b)
+      unfolding autoderefs pointerAutoderefs
+      auto-address u =
+          rw (← p, ← e, n, t, lines kind.pointer (layers a) (layers b) (equals (layers a) (layers b)) (sym p ∙ t) refl, ← inner-layers a, ← i, ← q, u, or-true)
+
+      pub auto-pointer : (r : Bool) → g ≡ false → r ≡ (equals (layers a) (layers b) || subautoderefs (layers a) (layers b)) →
+          r ≡ autoderefs (layers a) (layers b)
+      unfolding autoderefs pointerAutoderefs
+      auto-pointer r u s =
+          rw (← p, ← e, n, t, lines kind.pointer (layers a) (layers b) (equals (layers a) (layers b)) (sym p ∙ t) refl, ← inner-layers a, ← i, ← q, u, or-false) s
+
+    pub auto-other : (k ≡ kind.view → ⊥) → (k ≡ kind.pointer → ⊥) → false ≡ autoderefs (layers a) (layers b)
+    unfolding autoderefs
+    auto-other t u = rw (← p, ← e, n, ne-eqb k kind.view t, ne-eqb k kind.pointer u)

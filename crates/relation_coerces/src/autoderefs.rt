@@ -1,0 +1,61 @@
+use crate::coerces::can_coerce_address_into;
+use crate::coerces::can_coerce_into;
+use relation_equals::equals;
+use type_layers::inner;
+use type_layers::outer;
+use type_numbers::Kind;
+ghost use mathlib.Core.Path.{_≡_};
+ghost use Rattle.type_layers.specs.Layers.{layers};
+ghost use Rattle.relation_coerces.specs.Coercions as rules;
+
+fn is_array_or_struct(k: u64) -> bool
+    ensures { λ r. ⌜ r ≡ rules.isArrayOrStruct k ⌝ }
+{
+    (k == Kind::ARRAY)
+        | (k == Kind::ARRAY_WITH_NAMED_LENGTH)
+        | (k == Kind::SLICE)
+        | (k == Kind::SLICE_POINTER)
+        | (k == Kind::ENDLESS_ARRAY)
+        | (k == Kind::STRUCT)
+}
+
+// Whether a type autoderefs into another. What a View and a Pointer have in common is what sub-autoderefs asks.
+pub fn can_autoderef_into(a: &[u64], b: &[u64]) -> bool
+    ensures { λ r. ⌜ r ≡ rules.autoderefs (layers (now (a .entry))) (layers (now (b .entry))) ⌝ }
+{
+    let k = outer(a);
+    if is_array_or_struct(k) {
+        return equals(a, b) || can_coerce_into(a, b);
+    }
+    if k == Kind::VIEW {
+        return equals(a, b) || can_subautoderef_into(a, b);
+    }
+    if k == Kind::POINTER {
+        if can_coerce_address_into(inner(a), b) {
+            return true;
+        }
+        return equals(a, b) || can_subautoderef_into(a, b);
+    }
+    false
+}
+
+// Whether a View or a Pointer sub-autoderefs into another type.
+pub fn can_subautoderef_into(a: &[u64], b: &[u64]) -> bool
+    ensures { λ r. ⌜ r ≡ rules.subautoderefs (layers (now (a .entry))) (layers (now (b .entry))) ⌝ }
+{
+    if a.len() < 3 {
+        return false;
+    }
+    let k = a[0];
+    if (k == Kind::POINTER) | (k == Kind::VIEW) {
+        let d = &a[3..];
+        if equals(d, b) {
+            return true;
+        }
+        if can_subautoderef_into(d, b) {
+            return true;
+        }
+        return (outer(b) == k) && can_subautoderef_into(d, inner(b));
+    }
+    false
+}

@@ -1,0 +1,15 @@
+use borrow.Author.Needs.{needs}
+use Rattle.relation_declared.proofs.general.resolves.Statement.{statement}
+use Rattle.relation_declared.proofs.general.resolves.Tie as tie
+
+pub resolves-spec : {M : Type 1} → statement M
+resolves-spec =
+    tie.close
+    (tie.spec
+    (λ c. search needs)
+    (λ c. search needs)
+    (λ c. search needs)
+    (λ c. search needs)
+    (λ c. search needs)
+    (λ c. search needs)
+    (λ c. search needs))

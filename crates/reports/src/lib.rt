@@ -1,8 +1,0 @@
-// A plan as it is told and written.
-mod delivery;
-mod front;
-mod report;
-
-pub use delivery::deliver;
-pub use delivery::refuse;
-pub use report::Report;

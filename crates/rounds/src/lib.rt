@@ -1,6 +1,0 @@
-// The walk of a plan along the asked steps: what one round does, the rounds in a row, and the end of the walk.
-mod finish;
-mod round;
-mod walk;
-
-pub use walk::walk_asked;

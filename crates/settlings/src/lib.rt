@@ -1,5 +1,0 @@
-// How a walk is settled.
-mod settlement;
-
-pub use settlement::Settling;
-pub use settlement::settle;

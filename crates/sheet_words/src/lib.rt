@@ -1,0 +1,4 @@
+// Bytes read as words, the lowest byte first.
+mod decode_words;
+
+pub use decode_words::words_of;

@@ -1,0 +1,89 @@
+-- Put, poison and forward declaration: what each does to a table and its store.
+use mathlib.Core.Bool.{Bool, cond, not, _&&_}
+use mathlib.Core.List.{List, _++_}
+use Prim.Native.Nat.{ℕ, _*_}
+use lib.Dec.{eqb}
+use lib.ListN.{length, take, drop, getD, set}
+use Rattle.symbol_columns.specs.declared.symbol.Symbol.{Symbol}
+use Rattle.symbol_columns.specs.Rows.{vacant}
+use Rattle.symbol_columns.specs.Stored.{slotWords}
+use Rattle.symbol_order.specs.Order.{inOrder}
+use Rattle.write_answer.specs.declared.answer.Answer.{Answer}
+use Rattle.write_answer.specs.Flat.{accepted, notAccepted}
+use Rattle.symbol_update.specs.declared.update_record.Updated.{Updated}
+use Rattle.symbol_operations.specs.Act.{Act}
+use Rattle.symbol_operations.specs.Operation.{Operation, putNothing, acts}
+use Rattle.symbol_slot.specs.Way as way
+use Rattle.symbol_slot.specs.Way.{Way}
+use Rattle.symbol_slot.specs.Ways.{wayOf}
+use Rattle.symbol_record.specs.Deeds.{Deed, deed, overwrites, filled, filledWords, seen}
+use Rattle.symbol_change.specs.declared.change.Change.{Change}
+
+-- What is done to the first free record. "Put of poison: .. or inserts. Put of a type under a new id inserts it, well
+-- formed or not. Forward declaration overwrites or inserts." Value 3: a record was inserted.
+abbrev pub inserts : Act → List ℕ → ℕ → Bool → ℕ → ℕ → List ℕ → Deed
+inserts a ws id authority place mark offered =
+    deed (filled a id authority place mark offered) (filledWords a offered ws) (accepted 3)
+
+-- An operation's outcome: the answer, and what the table and the store hold then.
+pub record Outcome : Type 0 where
+  pub answer : Answer
+  pub table : List Symbol
+  pub store : List ℕ
+
+-- "Slot k's type stands in a lent store of words from 48k on.": the store with other words in slot k.
+abbrev pub withSlot : List ℕ → ℕ → List ℕ → List ℕ
+withSlot store k ws = take (k * 48) store ++ (ws ++ drop 48 (drop (k * 48) store))
+
+abbrev pub atSlot : ℕ → Deed → List Symbol → List ℕ → Outcome
+atSlot k d table store =
+    record { answer = d .answer; table = set table k (d .symbol); store = withSlot store k (d .words) }
+
+-- "Every refusal returns its number and a place (0 unless named) and changes nothing lent."
+abbrev pub outcomeBy : Way → Act → ℕ → Bool → ℕ → ℕ → List ℕ → List Symbol → List ℕ → Outcome
+outcomeBy (way.refused n p) a id authority place mark offered table store =
+    record { answer = notAccepted n p; table = table; store = store }
+outcomeBy (way.found k) a id authority place mark offered table store =
+    atSlot k (overwrites a (getD table k vacant) (slotWords store k) id authority place mark offered) table store
+outcomeBy (way.free k) a id authority place mark offered table store =
+    atSlot k (inserts a (slotWords store k) id authority place mark offered) table store
+
+-- "Put with nothing: accepted, unchanged." "12 table not in order"
+abbrev pub nothingPut : List Symbol → List ℕ → Answer
+nothingPut table store = cond (inOrder table store) (accepted 0) (notAccepted 12 0)
+
+unfoldable pub outcome : Operation → ℕ → Bool → ℕ → ℕ → List ℕ → List Symbol → List ℕ → Outcome
+outcome putNothing id authority place mark offered table store =
+    record { answer = nothingPut table store; table = table; store = store }
+outcome (acts a) id authority place mark offered table store =
+    outcomeBy (wayOf a id offered table store) a id authority place mark offered table store
+
+-- The same as the code's core hands it back: the slot and its new record; past the last slot, none.
+abbrev pub nowhere : ℕ → Answer → Change
+nowhere n a = record { slot = n; symbol = vacant; answer = a }
+
+abbrev pub inSlot : ℕ → Updated → Change
+inSlot k u = record { slot = k; symbol = u .symbol; answer = u .answer }
+
+-- An answer of a record that was found tells whether it changed: not by a refusal, and not with value 0.
+abbrev pub isChanged : Answer → Bool
+isChanged a = eqb (a .refusal) 0 && not (eqb (a .value) 0)
+
+-- Where nothing changes nothing is stored.
+abbrev pub ifChanged : ℕ → ℕ → Updated → Change
+ifChanged n k u = cond (isChanged (u .answer)) (inSlot k u) (nowhere n (u .answer))
+
+abbrev pub changeBy : Way → Act → ℕ → Bool → ℕ → ℕ → List ℕ → List Symbol → List ℕ → Change
+changeBy (way.refused n p) a id authority place mark offered table store = nowhere (length table) (notAccepted n p)
+changeBy (way.found k) a id authority place mark offered table store =
+    ifChanged (length table) k (seen (overwrites a (getD table k vacant) (slotWords store k) id authority place mark offered))
+changeBy (way.free k) a id authority place mark offered table store =
+    inSlot k (seen (inserts a (slotWords store k) id authority place mark offered))
+
+unfoldable pub changeOf : Operation → ℕ → Bool → ℕ → ℕ → List ℕ → List Symbol → List ℕ → Change
+changeOf putNothing id authority place mark offered table store = nowhere (length table) (nothingPut table store)
+changeOf (acts a) id authority place mark offered table store =
+    changeBy (wayOf a id offered table store) a id authority place mark offered table store
+
+unfoldable pub storeOf : Operation → ℕ → Bool → ℕ → ℕ → List ℕ → List Symbol → List ℕ → List ℕ
+storeOf op id authority place mark offered table store = outcome op id authority place mark offered table store .store

@@ -1,0 +1,61 @@
+-- Get: what a table has under a name.
+use mathlib.Core.Bool.{Bool, true, cond}
+use mathlib.Core.List.{List, []}
+use Prim.Native.Nat.{ℕ}
+use lib.Dec.{leb}
+use lib.ListN.{length, getD}
+use Rattle.symbol_columns.specs.declared.symbol.Symbol.{Symbol}
+use Rattle.symbol_columns.specs.Rows.{vacant, typed}
+use Rattle.symbol_columns.specs.Stored.{slotWords, storedWords}
+use Rattle.symbol_search.specs.Search.{slotFor}
+use Rattle.symbol_order.specs.Order.{inOrder}
+use Rattle.write_answer.specs.declared.answer.Answer.{Answer}
+use Rattle.write_answer.specs.Flat.{accepted, notAccepted}
+use Rattle.symbol_get.specs.Got as got′
+use Rattle.symbol_get.specs.Got.{Got}
+use Rattle.symbol_get.specs.declared.get.Got as coded
+use Rattle.symbol_get.specs.declared.get.Got.the-variants as code
+
+-- "(mark 0, plain poison, when the asking name isn't authoritative)"
+abbrev pub markFor : Bool → ℕ → ℕ
+markFor authority mark = cond authority mark 0
+
+-- "Get answers absent, the type, or the poison mark". "12 table not in order"
+unfoldable pub got : ℕ → Bool → List Symbol → List ℕ → Got
+got id authority table store =
+    cond (inOrder table store)
+    (cond (leb (length table) (slotFor id table)) got′.absent
+    (cond (typed (getD table (slotFor id table) vacant)) (got′.typed (slotFor id table))
+    (got′.poisoned (markFor authority (getD table (slotFor id table) vacant .mark)))))
+    (got′.refused 12 0)
+
+-- 0 absent; 1 typed; 2 poisoned.
+abbrev pub told : Got → Answer
+told got′.absent = accepted 0
+told (got′.typed k) = accepted 1
+told (got′.poisoned m) = accepted 2
+told (got′.refused n p) = notAccepted n p
+
+-- Where it is typed, the slot; where it is poisoned, the mark; else what was there.
+abbrev pub foundAfter : Got → ℕ → ℕ
+foundAfter got′.absent before = before
+foundAfter (got′.typed k) before = k
+foundAfter (got′.poisoned m) before = m
+foundAfter (got′.refused n p) before = before
+
+-- "symbol get return the part of the lent words that holds the .. stored type": no words where there is no type.
+abbrev pub typeIn : Got → List Symbol → List ℕ → List ℕ
+typeIn got′.absent table store = []
+typeIn (got′.typed k) table store = storedWords (getD table k vacant .layers) (slotWords store k)
+typeIn (got′.poisoned m) table store = []
+typeIn (got′.refused n p) table store = []
+
+unfoldable pub typeOf : ℕ → List Symbol → List ℕ → List ℕ
+typeOf id table store = typeIn (got id true table store) table store
+
+-- What each of the code's answers is.
+abbrev pub ofGot : coded.Got → Got
+ofGot code.Absent = got′.absent
+ofGot (code.Typed k) = got′.typed k
+ofGot (code.Poisoned m) = got′.poisoned m
+ofGot (code.Refused n p) = got′.refused n p

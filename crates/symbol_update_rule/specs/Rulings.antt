@@ -1,0 +1,36 @@
+-- "An update changes the lent symbol itself, by the first line that applies": which line that is.
+use mathlib.Core.Bool.{Bool, cond, not, _&&_, _||_}
+use mathlib.Core.List.{List}
+use Rattle.type_layers.specs.Layers.{Layer}
+use Rattle.type_wellformed.specs.Formed.{wellFormed}
+use Rattle.relation_equals.specs.Equalities.{identical}
+use Rattle.relation_declared.specs.Relations.{declared, concretization}
+use Rattle.relation_coerces.specs.Coercions.{coerces}
+use Rattle.symbol_update_rule.specs.Line as line
+use Rattle.symbol_update_rule.specs.Line.{Line}
+use Rattle.symbol_update_rule.specs.declared.lines.Line as coded
+use Rattle.symbol_update_rule.specs.declared.lines.Line.the-variants as code
+
+unfoldable pub lineOf : Bool → Bool → Bool → List Layer → List Layer → Line
+lineOf poisoned authoritative newly stored offered =
+    -- "poisoned: accepted, nothing changes."
+    cond poisoned line.poisoned
+    -- "Offered type, then stored type, ill formed: 4."
+    (cond (not (wellFormed offered && wellFormed stored)) line.illFormed
+    -- "Identical, or stored is a concretization of offered: accepted, nothing changes."
+    (cond (identical stored offered || concretization stored offered) line.kept
+    -- "Symbol authoritative and offered is declared as stored: type replaced, identifier kept."
+    (cond (authoritative && declared offered stored) line.typeReplaced
+    -- "New identifier authoritative and offered is a concretization of or coerces into stored: both replaced."
+    (cond (newly && (concretization offered stored || coerces offered stored)) line.bothReplaced
+    -- "Else 7."
+    line.conflicting))))
+
+-- Which line each of the code's is.
+abbrev pub ofLine : coded.Line → Line
+ofLine code.Poisoned = line.poisoned
+ofLine code.IllFormed = line.illFormed
+ofLine code.Kept = line.kept
+ofLine code.TypeReplaced = line.typeReplaced
+ofLine code.BothReplaced = line.bothReplaced
+ofLine code.Conflicting = line.conflicting

@@ -1,0 +1,17 @@
+// Asks every question about one type and about two, and fixes types, of ordinary words and of the worst. What it writes is held to the stored lines.
+mod fixing;
+mod inputs;
+mod relations;
+mod report;
+mod types;
+
+fn main() {
+    report::heading();
+    inputs::counts();
+    inputs::kinds();
+    inputs::leaves();
+    inputs::nested();
+    inputs::arrays();
+    relations::pairs();
+    fixing::fixing();
+}

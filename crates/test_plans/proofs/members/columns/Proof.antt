@@ -1,0 +1,35 @@
+use mathlib.Core.Path.{_≡_}
+use Prim.Native.Nat.{_-_}
+use lib.ListN.{length, length-set}
+use borrow.Author.Needs.{needs}
+use Rattle.test_plans.proofs.members.columns.Statement.{statement}
+use Rattle.test_plans.proofs.members.columns.Tie as tie
+
+abbrev Inv-loop : tie.InvT-loop
+Inv-loop ws₀ i₀ ws i = 768 ≡ length ws
+
+abbrev μ-loop : tie.MeasureT-loop
+μ-loop ws₀ i₀ ws i = 7 - i
+
+pub columns-spec : {M : Type 1} → statement M
+columns-spec =
+    tie.close
+    (tie.spec
+    Inv-loop
+    μ-loop
+    (λ c. search needs)
+    (λ c κs. search needs)
+    (λ c. search needs)
+    (λ c. search needs)
+    (λ c. search needs)
+    (λ c κs. search needs)
+    (λ c. search needs)
+    (λ c. search needs)
+    (λ c. search needs)
+    (λ c. search needs)
+    (λ c. search needs)
+    (λ c. search needs)
+    (λ c. search needs)
+    (λ c. search needs)
+    (λ c. simp length-set (search needs))
+    (λ c. search needs))

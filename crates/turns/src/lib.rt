@@ -1,6 +1,0 @@
-// What one round of the walk decides.
-mod round;
-mod turn;
-
-pub use round::turn_of;
-pub use turn::Turn;

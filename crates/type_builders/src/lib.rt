@@ -1,0 +1,9 @@
+// A layer of each kind, two in a row, and the types of strings.
+mod layer;
+mod layer_pair;
+mod strings;
+
+pub use layer::Layer;
+pub use layer_pair::two_layers;
+pub use strings::for_string_literal;
+pub use strings::for_string_slice;

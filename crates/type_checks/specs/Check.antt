@@ -1,0 +1,63 @@
+-- The checks 1 to 3 of a type's words: "Types are checked 1, 2 (all layers), 3".
+use mathlib.Core.Bool.{Bool, true, cond, not, _&&_, _||_}
+use mathlib.Core.List.{List, [], _∷_}
+use Prim.Native.Nat.{ℕ, _+_, _/_, _%_, _-_, _^_}
+use lib.Dec.{eqb, leb, ltb}
+use lib.ListN.{length}
+use Rattle.type_numbers.specs.Kind as kind
+use Rattle.type_layers.specs.Layers.{Layer, layers, holdsInner}
+use Rattle.type_layers.specs.Answer.{Answer, given, refused}
+
+-- The place of the first layer that a check stumbles over, from 0; or none.
+pub data Place : Type 0 where
+  at : ℕ → Place
+  nowhere : Place
+
+-- "1 word count 0, over 48 or not a multiple of 3"
+abbrev pub badCount : ℕ → Bool
+badCount n = eqb n 0 || ltb 48 n || not (eqb (n % 3) 0)
+
+-- "Name is a u32 value for 15, 20, 21 and a named 22." "Other fields are 0."
+abbrev pub named : Layer → Bool
+named x =
+    eqb (x .kind) kind.arrayWithNamedLength
+    || eqb (x .kind) kind.struct
+    || eqb (x .kind) kind.word
+    || (eqb (x .kind) kind.unresolvedStructOrWord && not (eqb (x .number) 0))
+
+abbrev pub goodName : Layer → Bool
+goodName x = cond (named x) (leb (x .name) (2 ^ 32 - 1)) (eqb (x .name) 0)
+
+-- "Number is the length for 14, the size for 21, and for 22 it is 1 with a name, 0 without (name then 0)." "Other fields are 0."
+abbrev pub goodNumber : Layer → Bool
+goodNumber x =
+    cond (eqb (x .kind) kind.array || eqb (x .kind) kind.word) true
+    (cond (eqb (x .kind) kind.unresolvedStructOrWord) (leb (x .number) 1)
+    (eqb (x .number) 0))
+
+-- "2 a bad layer"
+unfoldable pub goodLayer : Layer → Bool
+goodLayer x = ltb (x .kind) 25 && goodName x && goodNumber x
+
+unfoldable pub badLayer : ℕ → List Layer → Place
+badLayer p [] = nowhere
+badLayer p (x ∷ a) = cond (goodLayer x) (badLayer (p + 1) a) (at p)
+
+-- "3 leaf early or missing": a layer that holds an inner type is never last, a leaf always is.
+unfoldable pub misplaced : ℕ → List Layer → Place
+misplaced p [] = nowhere
+misplaced p (x ∷ []) = cond (holdsInner (x .kind)) (at p) nowhere
+misplaced p (x ∷ y ∷ a) = cond (holdsInner (x .kind)) (misplaced (p + 1) (y ∷ a)) (at p)
+
+-- The refusal of that number where a place was found; else what follows.
+abbrev pub unless : Place → ℕ → Answer ℕ → Answer ℕ
+unless (at p) n c = refused n p
+unless nowhere n c = c
+
+-- The layer count, or the first refusal.
+unfoldable pub checkOf : List ℕ → Answer ℕ
+checkOf ws =
+    cond (badCount (length ws)) (refused 1 0)
+    (unless (badLayer 0 (layers ws)) 2
+    (unless (misplaced 0 (layers ws)) 3
+    (given (length ws / 3))))

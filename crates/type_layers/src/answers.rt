@@ -1,0 +1,23 @@
+ghost use mathlib.Core.Path.{_≡_};
+ghost use Rattle.type_layers.specs.Answer.{ofVerdict, truth};
+
+// What the checks of a type's words say: how many layers they are, or a refusal.
+pub enum Checked {
+    Good(u64),
+    Refused { number: u64, place: u64 },
+}
+
+// The answer to a question of yes or no.
+pub enum Verdict {
+    Yes,
+    No,
+    Refused { number: u64, place: u64 },
+}
+
+impl Verdict {
+    pub fn of(yes: bool) -> Verdict
+        ensures { λ r. ⌜ ofVerdict r ≡ truth yes ⌝ }
+    {
+        if yes { Verdict::Yes } else { Verdict::No }
+    }
+}

@@ -1,0 +1,4 @@
+// The kinds of layers.
+mod kind;
+
+pub use kind::Kind;

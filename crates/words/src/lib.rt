@@ -1,4 +1,0 @@
-// Bytes read as words, the lowest byte first.
-mod decode;
-
-pub use decode::words_of;

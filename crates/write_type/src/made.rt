@@ -1,0 +1,43 @@
+use type_layers::Checked;
+use write_words::write_words;
+ghost use mathlib.Core.Path.{_≡_};
+ghost use mathlib.Core.List.{_++_};
+ghost use Rattle.type_layers.specs.Layers.{layers, spelled};
+ghost use Rattle.type_layers.specs.Answer.{given, ofChecked};
+ghost use Rattle.write_type.specs.Outcome.{answerIn, bufferIn};
+
+// The most words that a type has.
+const MOST: usize = 48;
+
+// The words of the layers, without one or two that are left over.
+fn whole_layers(ws: &[u64]) -> &[u64]
+    ensures { λ r. ⌜ now r ≡ spelled (layers (now (ws .entry))) ⌝ }
+{
+    &ws[..ws.len() / 3 * 3]
+}
+
+// Writes a type that is made of some layers in front and the rest, where it may be written.
+pub fn write_type(out: &mut [u64], front: &[u64], rest: &[u64]) -> Checked
+    ensures answer { λ r. ⌜ ofChecked r ≡ answerIn (now (out .entry)) (given (layers (now (front .entry)) ++ layers (now (rest .entry)))) ⌝ }
+    ensures buffer { λ _. ⌜ now (out .exit) ≡ bufferIn (now (out .entry)) (given (layers (now (front .entry)) ++ layers (now (rest .entry)))) ⌝ }
+{
+    let first = whole_layers(front);
+    let after = whole_layers(rest);
+    let start = first.len();
+    let n = start + after.len();
+    if n > MOST {
+        return Checked::Refused {
+            number: 15,
+            place: 0,
+        };
+    }
+    if out.len() < n {
+        return Checked::Refused {
+            number: 14,
+            place: 0,
+        };
+    }
+    write_words(out, first);
+    write_words(&mut out[start..], after);
+    Checked::Good(n as u64)
+}
