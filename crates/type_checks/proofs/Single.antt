@@ -2,8 +2,8 @@
 -- Assumes nothing.
 use mathlib.Core.Path.{sym, _∙_}
 use Rattle.type_layers.proofs.Single.{Single}
-use Rattle.type_checks.proofs.passing.is_type.Kinds as is-type-kinds
-use Rattle.type_checks.proofs.passing.is_type.Reads as is-type
+use Rattle.type_checks.proofs.type_test.is_type.Kinds as is-type-kinds
+use Rattle.type_checks.proofs.type_test.is_type.Reads as is-type
 use Rattle.type_checks.proofs.good_layers.good_layer.Kinds as good-layer-kinds
 use Rattle.type_checks.proofs.good_layers.good_layer.Reads as good-layer
 

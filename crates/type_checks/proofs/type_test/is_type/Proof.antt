@@ -2,8 +2,8 @@ use borrow.Author.Needs.{needs}
 use Prim.Native.Nat.{_-_}
 use lib.ListN.{length}
 use Rattle.type_checks.proofs.Passing.{Ahead, begin, too-many, left-over, holder-bad, holder-good, leaf-last}
-use Rattle.type_checks.proofs.passing.is_type.Statement.{statement}
-use Rattle.type_checks.proofs.passing.is_type.Tie as tie
+use Rattle.type_checks.proofs.type_test.is_type.Statement.{statement}
+use Rattle.type_checks.proofs.type_test.is_type.Tie as tie
 
 abbrev Inv-loop : tie.InvT-loop
 Inv-loop ws n at₀ at = Ahead ws at
