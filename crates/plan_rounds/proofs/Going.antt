@@ -13,8 +13,8 @@ use Rattle.type_wellformed.specs.Formed.{wellFormed}
 use Rattle.plan_steps.specs.Steps.{Step}
 use Rattle.plan_turn.specs.Turn.{Turn}
 use Rattle.plan_turn.proofs.Cases.{cases}
-use Rattle.walker_rule.specs.Walker.{Stored}
-use Rattle.walker_rule.specs.Members.{ofLayers}
+use Rattle.symbol_members.specs.Stored.{Stored}
+use Rattle.symbol_members.specs.Members.{ofLayers}
 use Rattle.plan_rounds.specs.Walk.{goes, turnAt, memberType}
 use Rattle.plan_rounds.specs.Round.{onto}
 use Rattle.plan_rounds.proofs.Refusing.{memberRefusal, refusal}

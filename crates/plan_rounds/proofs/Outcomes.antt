@@ -6,7 +6,7 @@ use Prim.Native.Nat.{ℕ}
 use Rattle.type_layers.specs.Layers.{Layer, layers}
 use Rattle.type_layers.specs.Answer.{refused}
 use Rattle.plan_steps.specs.Steps.{steps}
-use Rattle.walker_rule.specs.Members.{ofLayers}
+use Rattle.symbol_members.specs.Members.{ofLayers}
 use Rattle.plan_rounds.specs.Walk.{ended, stopped, walk}
 use Rattle.plan_report.specs.Report.{delivered}
 use Rattle.plan_rounds.specs.Walked.{finished, walked}

@@ -15,8 +15,8 @@ use Rattle.type_layers.specs.Answer.{given, refused}
 use Rattle.plan_steps.specs.Steps.{Step, steps, stepWords}
 use Rattle.plan_steps.proofs.Words.{stepAt, steps-none, steps-more, words-append, words-back}
 use Rattle.plan_turn.specs.Turn.{Turn, Stuck, Auto, Element, Desliced, Member}
-use Rattle.walker_rule.specs.Walker.{Stored}
-use Rattle.walker_rule.specs.Members.{ofLayers}
+use Rattle.symbol_members.specs.Stored.{Stored}
+use Rattle.symbol_members.specs.Members.{ofLayers}
 use Rattle.plan_rounds.specs.Walk.{Walk, ended, stopped, stepsOf, takenBy, goes, turnAt, prepend, walk}
 use Rattle.plan_rounds.specs.Round.{onto}
 use Rattle.plan_rounds.proofs.Refusing.{refusal}

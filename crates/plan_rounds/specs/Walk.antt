@@ -10,7 +10,7 @@ use Rattle.plan_steps.specs.StepKind as of-step
 use Rattle.plan_steps.specs.Steps.{Step, step}
 use Rattle.plan_turn.specs.Turn.{Turn, Stuck, Auto, Element, Desliced, Member}
 use Rattle.plan_turn.specs.Turns.{turn}
-use Rattle.walker_rule.specs.Walker.{Stored, typed, absent}
+use Rattle.symbol_members.specs.Stored.{Stored, typed, absent}
 
 -- How a walk ends: the steps so far, how many asked steps were taken, and the current type; or with a refusal's number.
 pub data Walk : Type 0 where

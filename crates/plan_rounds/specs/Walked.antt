@@ -5,7 +5,7 @@ use Rattle.type_layers.specs.Layers.{Layer, layers, Whole}
 use Rattle.type_layers.specs.Answer.{Answer, given, nothing, refused}
 use Rattle.plan_steps.specs.Steps.{Step, steps}
 use Rattle.plan_settling.specs.Settling.{Settled, settle}
-use Rattle.walker_rule.specs.Members.{ofLayers}
+use Rattle.symbol_members.specs.Members.{ofLayers}
 use Rattle.plan_report.specs.Plan.{Plan, narrow}
 use Rattle.plan_report.specs.Report.{delivered}
 use Rattle.plan_rounds.specs.Walk.{Walk, ended, stopped, walk}

@@ -4,7 +4,7 @@ use plan_turn::Turn;
 use plan_turn::turn_of;
 use type_layers::inner;
 use type_layers::outer;
-use walker_rule::member;
+use symbol_members::member;
 ghost use mathlib.Core.Path.{_≡_};
 ghost use mathlib.Core.List.{_++_};
 ghost use Prim.Native.Nat.{_+_, _*_, _≤_};
@@ -13,7 +13,7 @@ ghost use Rattle.type_layers.specs.Layers.{layers};
 ghost use Rattle.plan_steps.specs.Steps.{stepWords};
 ghost use Rattle.plan_steps.proofs.Words.{stepAt};
 ghost use Rattle.plan_turn.specs.Turn.{ofTurn};
-ghost use Rattle.walker_rule.specs.Members.{memberIn};
+ghost use Rattle.symbol_members.specs.Members.{memberIn};
 ghost use Rattle.plan_rounds.specs.Walk.{stepsOf, takenBy, turnAt};
 ghost use Rattle.plan_rounds.specs.Round as rounds;
 

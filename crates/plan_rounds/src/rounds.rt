@@ -11,7 +11,7 @@ ghost use mathlib.Core.Path.{_≡_};
 ghost use Prim.Native.Nat.{_≤_, _*_};
 ghost use lib.ListN.{length, drop};
 ghost use Rattle.type_layers.specs.Layers.{Whole};
-ghost use Rattle.walker_rule.specs.Members.{memberIn};
+ghost use Rattle.symbol_members.specs.Members.{memberIn};
 ghost use Rattle.plan_report.specs.Report as report;
 ghost use Rattle.plan_rounds.specs.Walked.{AllWhole, walked};
 

@@ -20,8 +20,9 @@ use Rattle.write_answer.specs.declared.answer.Answer.{Answer}
 use Rattle.write_answer.specs.Flat.{accepted, notAccepted, flat}
 use Rattle.plan_steps.specs.Steps.{steps, stepsAnswer}
 use Rattle.plan_steps.proofs.Words.{words-length}
-use Rattle.walker_rule.specs.Walker.{at, Stored, arrives}
-use Rattle.walker_rule.specs.Members.{members}
+use Rattle.symbol_members.specs.Stored.{Stored}
+use Rattle.walker_rule.specs.Walker.{at, arrives}
+use Rattle.symbol_members.specs.Members.{members}
 use Rattle.walker_run.specs.Walked.{walkTo}
 use Rattle.walker_run.proofs.Theorems.{arrives-walk}
 use Rattle.plan_report.specs.declared.report.Report.{Report}

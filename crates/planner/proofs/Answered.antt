@@ -19,8 +19,8 @@ use Rattle.plan_turn.specs.Turn.{Turn, Stuck, Auto, Element, Desliced, Member}
 use Rattle.plan_settling.specs.Line as line
 use Rattle.plan_settling.specs.Line.{Line}
 use Rattle.plan_settling.specs.Settling.{Settled, settleOtherwise, lineOf, settleBy, settle}
-use Rattle.walker_rule.specs.Walker.{Stored, typed, absent}
-use Rattle.walker_rule.specs.Members.{members}
+use Rattle.symbol_members.specs.Stored.{Stored, typed, absent}
+use Rattle.symbol_members.specs.Members.{members}
 use Rattle.plan_rounds.specs.Walk.{Walk, ended, stopped, stepsOf, takenBy, memberType, goes, turnAt, onward, walk}
 use Rattle.plan_report.specs.Plan.{Plan}
 use Rattle.plan_rounds.specs.Walked.{withSettling, settleWalk}

@@ -22,7 +22,8 @@ use Rattle.plan_steps.specs.Steps.{Step, goodSteps}
 use Rattle.plan_steps.proofs.Words.{good-append}
 use Rattle.plan_settling.specs.Settling.{Settled, pointer, settle}
 use Rattle.plan_settling.proofs.Lines.{lines}
-use Rattle.walker_rule.specs.Walker.{at, Stored, typed, walker, arrives}
+use Rattle.symbol_members.specs.Stored.{Stored, typed}
+use Rattle.walker_rule.specs.Walker.{at, walker, arrives}
 use Rattle.walker_rule.proofs.Where.{at-is}
 use Rattle.plan_rounds.specs.Walk.{ended, walk}
 use Rattle.plan_rounds.proofs.Finishing.{depth-few}

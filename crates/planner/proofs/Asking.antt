@@ -24,8 +24,8 @@ use Rattle.symbol_columns.proofs.Reading.{length-read}
 use Rattle.symbol_lent.proofs.Gathering.{swapped}
 use Rattle.symbol_order.proofs.Ordered.{ordered, too-long}
 use Rattle.plan_steps.specs.Steps.{stepsAnswer}
-use Rattle.walker_rule.specs.Members.{memberIn, ofLayers, members}
-use Rattle.walker_rule.proofs.Storing.{at-most, member-whole}
+use Rattle.symbol_members.specs.Members.{memberIn, ofLayers, members}
+use Rattle.symbol_members.proofs.Storing.{at-most, member-whole}
 use Rattle.plan_report.specs.Plan.{Plan}
 use Rattle.planner.specs.Plan.{planOf}
 use Rattle.plan_report.specs.Report.{delivered, notGiven, told, stepsOver, typeOver}

@@ -38,9 +38,9 @@ use Rattle.symbol_search.specs.Search.{slotFor}
 use Rattle.symbol_order.specs.Order.{inOrder}
 use Rattle.plan_steps.specs.Steps.{steps, stepWords, goodSteps, stepsAnswer}
 use Rattle.plan_steps.proofs.Words.{words-length, words-back, words-whole}
-use Rattle.walker_rule.specs.Walker.{Stored, typed, absent}
-use Rattle.walker_rule.specs.Members.{ofLayers, members, memberWords}
-use Rattle.walker_rule.proofs.Storing.{stored-good, member-whole}
+use Rattle.symbol_members.specs.Stored.{Stored, typed, absent}
+use Rattle.symbol_members.specs.Members.{ofLayers, members, memberWords}
+use Rattle.symbol_members.proofs.Storing.{stored-good, member-whole}
 use Rattle.plan_rounds.proofs.Finishing.{whole-few}
 use Rattle.plan_report.specs.declared.report.Report.{Report}
 use Rattle.plan_report.specs.Plan.{Plan}

@@ -24,7 +24,8 @@ use Rattle.plan_settling.specs.Line as line
 use Rattle.plan_settling.specs.Line.{Line}
 use Rattle.plan_settling.specs.Settling.{Settled, settleOtherwise, lineOf}
 use Rattle.plan_settling.proofs.Lines.{seventh}
-use Rattle.walker_rule.specs.Walker.{Where, at, stuck, Stored, typed, absent, act, walker, arrives}
+use Rattle.symbol_members.specs.Stored.{Stored, typed, absent}
+use Rattle.walker_rule.specs.Walker.{Where, at, stuck, act, walker, arrives}
 use Rattle.walker_rule.proofs.Where.{typeAt}
 use Rattle.plan_report.specs.Plan.{Plan}
 use Rattle.planner.specs.Demand.{unmarked, asked, rounds, Hidden, Demand}

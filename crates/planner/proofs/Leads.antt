@@ -16,7 +16,8 @@ use Rattle.plan_turn.specs.Turn.{Turn}
 use Rattle.type_layers.proofs.Decide.{both}
 use Rattle.type_layers.proofs.Given.{not-given, given-is}
 use Rattle.plan_turn.proofs.Cases.{cases}
-use Rattle.walker_rule.specs.Walker.{at, Stored, typed, absent, act, walker}
+use Rattle.symbol_members.specs.Stored.{Stored, typed, absent}
+use Rattle.walker_rule.specs.Walker.{at, act, walker}
 use Rattle.plan_rounds.proofs.Going.{one-in, two-in}
 use Rattle.plan_rounds.specs.Walk.{stepsOf, takenBy, memberType, goes, turnAt}
 use Rattle.planner.specs.Demand.{asked, unmarked, rounds}

@@ -13,7 +13,7 @@ use Rattle.type_layers.proofs.Given.{not-given, nothing-given, given-is}
 use Rattle.type_wellformed.specs.Formed.{wellFormed}
 use Rattle.plan_steps.specs.Steps.{Step}
 use Rattle.plan_settling.specs.Settling.{Settled, settle}
-use Rattle.walker_rule.specs.Walker.{Stored}
+use Rattle.symbol_members.specs.Stored.{Stored}
 use Rattle.plan_rounds.specs.Walk.{Walk, ended, stopped, walk}
 use Rattle.plan_rounds.specs.Walked.{withSettling, settleWalk}
 use Rattle.plan_report.specs.Plan.{Plan}

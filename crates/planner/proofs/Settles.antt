@@ -25,7 +25,8 @@ use Rattle.plan_steps.specs.Steps.{Step, step, goodStep, goodSteps}
 use Rattle.plan_settling.specs.Line as line
 use Rattle.plan_settling.specs.Settling.{Settled, settled, pointer, dereferenced, settleOtherwise, lineOf, settleBy, settle}
 use Rattle.plan_settling.proofs.Lines.{lines, seventh}
-use Rattle.walker_rule.specs.Walker.{at, Stored, act, walker, arrives}
+use Rattle.symbol_members.specs.Stored.{Stored}
+use Rattle.walker_rule.specs.Walker.{at, act, walker, arrives}
 use Rattle.walker_rule.proofs.Where.{at-is}
 use Rattle.planner.specs.Demand.{asked}
 use Rattle.type_checks.proofs.Accepted.{goodLayers}

@@ -19,7 +19,7 @@ use Rattle.type_wellformed.specs.Formed.{inner, element, wellFormed}
 use Rattle.plan_steps.specs.Steps.{Step}
 use Rattle.type_layers.proofs.Given.{not-given, given-is}
 use Rattle.plan_turn.proofs.Cases.{cases}
-use Rattle.walker_rule.specs.Walker.{Stored, typed, absent}
+use Rattle.symbol_members.specs.Stored.{Stored, typed, absent}
 use Rattle.plan_rounds.specs.Walk.{ended, goes, turnAt, memberType, walk}
 use Rattle.planner.proofs.Leads.{reached}
 use Rattle.plan_rounds.proofs.Going.{one-in, two-in}

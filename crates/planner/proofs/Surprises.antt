@@ -18,7 +18,8 @@ use Rattle.plan_steps.specs.StepKind as of-step
 use Rattle.plan_steps.specs.Steps.{step}
 use Rattle.plan_settling.specs.Settling.{pointer, settleOtherwise, lineOf, settleBy, settle}
 use Rattle.plan_rounds.specs.Walk.{walk}
-use Rattle.walker_rule.specs.Walker.{typed, absent, walker}
+use Rattle.symbol_members.specs.Stored.{typed, absent}
+use Rattle.walker_rule.specs.Walker.{walker}
 use Rattle.plan_report.specs.Plan.{Plan}
 use Rattle.planner.specs.Plan.{planOf}
 use Rattle.planner.specs.Demand.{Hidden}

@@ -17,7 +17,7 @@ use Rattle.plan_steps.specs.StepKind as of-step
 use Rattle.plan_steps.specs.Steps.{Step, step}
 use Rattle.plan_turn.specs.Turns.{turn}
 use Rattle.plan_settling.specs.Settling.{settleOtherwise, lineOf, settleBy, settle}
-use Rattle.walker_rule.specs.Walker.{absent}
+use Rattle.symbol_members.specs.Stored.{absent}
 use Rattle.plan_rounds.specs.Walk.{walk}
 use Rattle.plan_report.specs.Plan.{Plan}
 use Rattle.planner.specs.Plan.{planOf}

@@ -17,7 +17,8 @@ use Rattle.plan_steps.specs.StepKind as of-step
 use Rattle.plan_steps.specs.Steps.{Step, goodStep, goodSteps}
 use Rattle.plan_steps.proofs.Words.{good-append}
 use Rattle.type_layers.proofs.Decide.{both}
-use Rattle.walker_rule.specs.Walker.{Where, at, stuck, Stored, act, then, walker}
+use Rattle.symbol_members.specs.Stored.{Stored}
+use Rattle.walker_rule.specs.Walker.{Where, at, stuck, act, then, walker}
 use Rattle.plan_rounds.specs.Walk.{Walk, ended, stopped, stepsOf, takenBy, goes, turnAt, prepend, onward, walk}
 use Rattle.plan_turn.specs.Turn.{Turn, Stuck, Auto, Element, Desliced, Member}
 use Rattle.plan_rounds.proofs.Turning.{took-few}

@@ -10,7 +10,7 @@ use Rattle.type_checks.specs.Check.{checkOf}
 use Rattle.symbol_columns.specs.declared.symbol.Symbol.{Symbol}
 use Rattle.symbol_order.specs.Order.{inOrder}
 use Rattle.plan_steps.specs.Steps.{steps, stepsAnswer}
-use Rattle.walker_rule.specs.Members.{members}
+use Rattle.symbol_members.specs.Members.{members}
 use Rattle.plan_report.specs.Plan.{Plan}
 use Rattle.planner.specs.Plan.{planOf}
 use Rattle.plan_report.specs.Report.{delivered}

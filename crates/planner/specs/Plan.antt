@@ -6,7 +6,7 @@ use Rattle.type_layers.specs.Layers.{Layer}
 use Rattle.type_layers.specs.Answer.{Answer, refused}
 use Rattle.type_wellformed.specs.Formed.{wellFormed}
 use Rattle.plan_steps.specs.Steps.{Step}
-use Rattle.walker_rule.specs.Walker.{Stored}
+use Rattle.symbol_members.specs.Stored.{Stored}
 use Rattle.plan_report.specs.Plan.{Plan}
 use Rattle.plan_rounds.specs.Walk.{walk}
 use Rattle.plan_rounds.specs.Walked.{settleWalk}

@@ -11,7 +11,8 @@ use Rattle.relation_coerces.specs.Coercions.{coerces, addressCoerces}
 use Rattle.plan_steps.specs.Steps.{Step}
 use Rattle.plan_settling.specs.Line as line
 use Rattle.plan_settling.specs.Settling.{pointer, settled, settleOtherwise, lineOf}
-use Rattle.walker_rule.specs.Walker.{at, Stored, walker}
+use Rattle.symbol_members.specs.Stored.{Stored}
+use Rattle.walker_rule.specs.Walker.{at, walker}
 use Rattle.plan_report.specs.Plan.{Plan}
 
 -- By the lines (i), (ii), (iv) and (v) the reported type is the target, and the plan is not coerced.

@@ -20,7 +20,7 @@ use Rattle.write_type.specs.Outcome.{answerIn, bufferIn}
 use Rattle.symbol_columns.specs.declared.symbol.Symbol.{Symbol}
 use Rattle.write_answer.specs.Flat.{flat}
 use Rattle.plan_steps.specs.Steps.{steps}
-use Rattle.walker_rule.specs.Members.{members}
+use Rattle.symbol_members.specs.Members.{members}
 use Rattle.walker_run.specs.Walked.{walkTo}
 use Rattle.plan_report.specs.Report.{planRead}
 use Rattle.planner.specs.Demand.{Hidden, Demand}

@@ -1,5 +1,4 @@
--- What the proofs of several functions use, and what follows from the definitions.
+-- What the proofs of several functions use.
 pub mod Where
-pub mod Storing
-pub mod Getting
+pub mod Asking
 pub mod Single

@@ -5,14 +5,8 @@ use contract.Lifetimes.{Lfts}
 use denote.Ref.{now}
 use denote.Triple.Clauses.{AtExit}
 use borrow.Fn.Kinds.{Dens, resT, endedOf}
-use Rattle.walker_rule.proofs.members.member.Kinds as member-kinds
-use Rattle.walker_rule.proofs.members.member.Reads as member
-use Rattle.walker_rule.proofs.members.asked_member.Kinds as asked-member-kinds
-use Rattle.walker_rule.proofs.members.asked_member.Reads as asked-member
-
-pub member-single : (κs : Lfts 2) (a : Dens κs member-kinds.ps) (x y : resT member-kinds.r κs .Denot) (s t : AtExit (endedOf 2 member-kinds.ps member-kinds.r) κs) →
-    member.Post κs a x s → member.Post κs a y t → now x ≡ now y
-member-single κs a x y s t p q = p ∙ sym q
+use Rattle.walker_rule.proofs.asked.asked_member.Kinds as asked-member-kinds
+use Rattle.walker_rule.proofs.asked.asked_member.Reads as asked-member
 
 pub asked-member-single : (κs : Lfts 2) (a : Dens κs asked-member-kinds.ps) (x y : resT asked-member-kinds.r κs .Denot)
     (s t : AtExit (endedOf 2 asked-member-kinds.ps asked-member-kinds.r) κs) →

@@ -1,2 +1,2 @@
 pub mod Walker
-pub mod Members
+pub mod Asked

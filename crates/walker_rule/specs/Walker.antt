@@ -5,6 +5,7 @@ use Prim.Native.Nat.{ℕ}
 use lib.Dec.{eqb}
 use Rattle.type_numbers.specs.Kind as kind
 use Rattle.type_layers.specs.Layers.{Layer, layer, outer, inside, isArray, isReference}
+use Rattle.symbol_members.specs.Stored.{Stored, typed, absent}
 use Rattle.plan_steps.specs.StepKind as of-step
 use Rattle.plan_steps.specs.Steps.{Step}
 
@@ -34,11 +35,7 @@ element t =
     (cond (isReference (outer t) && eqb (outer (inside t)) kind.arraylike) (at (inside (inside t)))
     stuck)
 
--- "Member from Struct or Word to the table's type": what the table has of a member.
-pub data Stored : Type 0 where
-  typed : List Layer → Stored
-  absent : Stored
-
+-- "Member from Struct or Word to the table's type"
 abbrev pub toStored : Stored → Where
 toStored (typed t) = at t
 toStored absent = stuck

@@ -1,5 +1,4 @@
-// The plain walker knows what one step does; of its functions here are those that tell a member's type.
-mod members;
+// The rule of the plain walker: what one step does to a type; and the member that a step asks for.
+mod asked;
 
-pub use members::asked_member;
-pub use members::member;
+pub use asked::asked_member;

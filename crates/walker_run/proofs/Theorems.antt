@@ -14,8 +14,9 @@ use Rattle.type_checks.specs.Check.{checkOf}
 use Rattle.symbol_order.specs.Order.{inOrder}
 use Rattle.symbol_columns.specs.declared.symbol.Symbol.{Symbol}
 use Rattle.plan_steps.specs.Steps.{Step, step, steps, stepsAnswer}
-use Rattle.walker_rule.specs.Walker.{Where, at, stuck, Stored, act, then, walker, arrives}
-use Rattle.walker_rule.specs.Members.{members}
+use Rattle.symbol_members.specs.Stored.{Stored}
+use Rattle.walker_rule.specs.Walker.{Where, at, stuck, act, then, walker, arrives}
+use Rattle.symbol_members.specs.Members.{members}
 use Rattle.walker_rule.proofs.Where.{at-is, not-stuck}
 use Rattle.walker_arrival.specs.Arrived.{addressed}
 use Rattle.walker_run.specs.Walked.{unlessStuck, walkedFrom, andAddress, walkFrom, walkOrdered, walkTo}

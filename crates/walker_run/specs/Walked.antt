@@ -8,8 +8,9 @@ use Rattle.type_checks.specs.Check.{checkOf}
 use Rattle.symbol_columns.specs.declared.symbol.Symbol.{Symbol}
 use Rattle.symbol_order.specs.Order.{inOrder}
 use Rattle.plan_steps.specs.Steps.{Step, steps, stepsAnswer}
-use Rattle.walker_rule.specs.Walker.{Where, at, stuck, Stored, act}
-use Rattle.walker_rule.specs.Members.{members}
+use Rattle.symbol_members.specs.Stored.{Stored}
+use Rattle.walker_rule.specs.Walker.{Where, at, stuck, act}
+use Rattle.symbol_members.specs.Members.{members}
 use Rattle.walker_arrival.specs.Arrived.{addressed}
 
 -- "8 with the step as place where it sticks": p is the place of the next step.

@@ -13,8 +13,9 @@ use Rattle.type_layers.proofs.Words.{inner-layers, inner-whole, none, more}
 use Rattle.type_layers.proofs.Decide.{yes, no}
 use Rattle.plan_steps.specs.StepKind as of-step
 use Rattle.plan_steps.specs.Steps.{Step}
-use Rattle.walker_rule.specs.Walker.{Where, at, stuck, Stored, toStored, element, member, act}
-use Rattle.walker_rule.specs.Members.{ofLayers}
+use Rattle.symbol_members.specs.Stored.{Stored}
+use Rattle.walker_rule.specs.Walker.{Where, at, stuck, toStored, element, member, act}
+use Rattle.symbol_members.specs.Members.{ofLayers}
 use Rattle.walker_step.specs.Moves.{onElement, onMember, onAutodeslice, takesOff, moveOf, seen, onward, desliced, sticks, moved, Current}
 use Rattle.walker_step.specs.declared.step_move.Move.{Move}
 use Rattle.walker_step.specs.declared.step_move.Move.the-variants.{Stuck, Inside, TwoInside, Deslice, Member}

@@ -10,7 +10,6 @@ use lib.ListN.{length, take, getD, List·getD-eq-default}
 use borrow.Author.Tests.{lt-ltb, le-ltb, eq-eqb, ne-eqb}
 use Rattle.type_layers.specs.Answer.{isGiven}
 use Rattle.type_layers.specs.Layers.{Whole}
-use Rattle.type_layers.proofs.Decide.{yes}
 use Rattle.type_checks.specs.Check.{checkOf}
 use Rattle.type_checks.proofs.Accepted.{good-whole}
 use Rattle.symbol_columns.specs.Rows.{vacant, rowAt, readFrom, typed}
@@ -21,7 +20,7 @@ use Rattle.symbol_columns.specs.declared.symbol.Symbol.{Symbol}
 use Rattle.symbol_columns.proofs.Reading.{getD-read, length-read}
 use Rattle.symbol_search.proofs.Searching.{slot-is}
 use Rattle.symbol_order.proofs.Ordered.{ordered, pass-at}
-use Rattle.walker_rule.specs.Members.{wordsAt, memberWords, memberIn, askedIn}
+use Rattle.symbol_members.specs.Members.{wordsAt, memberWords, memberIn}
 
 -- the record that is found
 module _ (ws store : List ℕ) (n id : ℕ) where
@@ -55,16 +54,6 @@ module _ (ws store : List ℕ) (n id : ℕ) where
           r ≡ memberIn ws n store id
       unfolding rowAt
       is-typed slot r f p g = g ∙ ap (storedWords (getD ws (k + 512) 0)) p ∙ sym (here ∙ rw (eq-eqb (getD ws (k + 384) 0) 1 f))
-
--- the member's words, by the step's kind
-module _ (ws store : List ℕ) (n s id : ℕ) where
-  pub is-asked : (r : List ℕ) → s ≡ 1 → r ≡ memberIn ws n store id → r ≡ askedIn ws n store s id
-  unfolding askedIn
-  is-asked r e q = yes _ r _ _ (eq-eqb s 1 e) q
-
-  pub not-asked : (s ≡ 1 → ⊥) → take 0 store ≡ askedIn ws n store s id
-  unfolding askedIn
-  not-asked e = rw (ne-eqb s 1 e)
 
 -- what is stored in a table that is in order
 module _ (table : List Symbol) (store : List ℕ) (id : ℕ) (o : inOrder table store ≡ true) where

@@ -1,7 +1,7 @@
-use Rattle.walker_rule.proofs.Storing.{too-many, not-there, not-typed, is-typed}
+use Rattle.symbol_members.proofs.Storing.{too-many, not-there, not-typed, is-typed}
 use borrow.Author.Needs.{needs}
-use Rattle.walker_rule.proofs.members.member.Statement.{statement}
-use Rattle.walker_rule.proofs.members.member.Tie as tie
+use Rattle.symbol_members.proofs.members.member.Statement.{statement}
+use Rattle.symbol_members.proofs.members.member.Tie as tie
 
 pub member-spec : {M : Type 1} → statement M
 member-spec =

@@ -1,9 +1,8 @@
-use plan_steps::StepKind;
 use symbol_columns::slot_words;
 use symbol_columns::stored_words;
 use symbol_search::slot_with;
 ghost use mathlib.Core.Path.{_≡_};
-ghost use Rattle.walker_rule.specs.Members.{memberIn, askedIn};
+ghost use Rattle.symbol_members.specs.Members.{memberIn};
 
 // The words of the type that is stored under an id; none where it is absent or poisoned.
 pub fn member<'a>(flat: &[u64; 768], n: usize, store: &'a [u64], id: u64) -> &'a [u64]
@@ -20,20 +19,4 @@ pub fn member<'a>(flat: &[u64; 768], n: usize, store: &'a [u64], id: u64) -> &'a
         return &store[..0];
     }
     stored_words(slot_words(store, k), flat[k + 512])
-}
-
-// The same where the step is a Member; else no words.
-pub fn asked_member<'a>(
-    flat: &[u64; 768],
-    n: usize,
-    store: &'a [u64],
-    kind: u64,
-    id: u64,
-) -> &'a [u64]
-    ensures { λ r. ⌜ now r ≡ askedIn (now (flat .entry)) n (now (store .entry)) kind id ⌝ }
-{
-    if kind == StepKind::MEMBER {
-        return member(flat, n, store, id);
-    }
-    &store[..0]
 }

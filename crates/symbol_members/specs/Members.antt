@@ -2,16 +2,15 @@
 use mathlib.Core.Bool.{cond}
 use mathlib.Core.List.{List, [], _∷_}
 use Prim.Native.Nat.{ℕ}
-use lib.Dec.{eqb, ltb}
+use lib.Dec.{ltb}
 use lib.ListN.{getD}
 use Rattle.type_layers.specs.Layers.{Layer, layers}
 use Rattle.symbol_columns.specs.declared.symbol.Symbol.{Symbol}
 use Rattle.symbol_columns.specs.Rows.{vacant, readFrom, typed}
 use Rattle.symbol_columns.specs.Stored.{slotWords, storedWords}
 use Rattle.symbol_search.specs.Search.{slotFor}
-use Rattle.plan_steps.specs.StepKind as of-step
-use Rattle.walker_rule.specs.Walker as walker
-use Rattle.walker_rule.specs.Walker.{Stored}
+use Rattle.symbol_members.specs.Stored as stored
+use Rattle.symbol_members.specs.Stored.{Stored}
 
 -- The words of the record's type, which stand first in its slot; a poisoned record has none.
 abbrev pub wordsAt : Symbol → List ℕ → List ℕ
@@ -25,13 +24,9 @@ memberWords table store id = wordsAt (getD table (slotFor id table) vacant) (slo
 unfoldable pub memberIn : List ℕ → ℕ → List ℕ → ℕ → List ℕ
 memberIn ws n store id = cond (ltb 128 n) [] (memberWords (readFrom ws 0 n) store id)
 
--- The same where the step is a Member; else none.
-unfoldable pub askedIn : List ℕ → ℕ → List ℕ → ℕ → ℕ → List ℕ
-askedIn ws n store kind id = cond (eqb kind of-step.member) (memberIn ws n store id) []
-
 abbrev pub ofLayers : List Layer → Stored
-ofLayers [] = walker.absent
-ofLayers (x ∷ t) = walker.typed (x ∷ t)
+ofLayers [] = stored.absent
+ofLayers (x ∷ t) = stored.typed (x ∷ t)
 
 unfoldable pub members : List Symbol → List ℕ → ℕ → Stored
 members table store id = ofLayers (layers (memberWords table store id))

@@ -18,13 +18,13 @@ use Rattle.symbol_order.specs.Order.{inOrder}
 use Rattle.symbol_get.specs.Got as got′
 use Rattle.symbol_get.specs.Got.{Got}
 use Rattle.symbol_get.specs.Gets.{markFor, got, typeIn}
-use Rattle.walker_rule.specs.Walker as walker
-use Rattle.walker_rule.specs.Walker.{Stored}
-use Rattle.walker_rule.specs.Members.{wordsAt, ofLayers, memberWords, members}
-use Rattle.walker_rule.proofs.Storing.{stored-good}
+use Rattle.symbol_members.specs.Stored as stored
+use Rattle.symbol_members.specs.Stored.{Stored}
+use Rattle.symbol_members.specs.Members.{wordsAt, ofLayers, memberWords, members}
+use Rattle.symbol_members.proofs.Storing.{stored-good}
 
 -- a type's words have a layer
-some-layer : (ws : List ℕ) → isGiven (checkOf ws) ≡ true → ofLayers (layers ws) ≡ walker.typed (layers ws)
+some-layer : (ws : List ℕ) → isGiven (checkOf ws) ≡ true → ofLayers (layers ws) ≡ stored.typed (layers ws)
 unfolding checkOf layers
 some-layer [] e = absurd (false≢true e)
 some-layer (k ∷ []) e = absurd (false≢true e)
@@ -32,12 +32,12 @@ some-layer (k ∷ n ∷ []) e = absurd (false≢true e)
 some-layer (k ∷ n ∷ m ∷ ws) e = refl
 
 module _ (table : List Symbol) (store : List ℕ) where
-  -- what get answers, as the walker has it: the type where it is typed; else absent
+  -- what get answers, as a member: the type where it is typed; else absent
   abbrev pub ofGot : Got → Stored
-  ofGot got′.absent = walker.absent
-  ofGot (got′.typed k) = walker.typed (layers (typeIn (got′.typed k) table store))
-  ofGot (got′.poisoned m) = walker.absent
-  ofGot (got′.refused n p) = walker.absent
+  ofGot got′.absent = stored.absent
+  ofGot (got′.typed k) = stored.typed (layers (typeIn (got′.typed k) table store))
+  ofGot (got′.poisoned m) = stored.absent
+  ofGot (got′.refused n p) = stored.absent
 
   -- Of a table in order a member is typed where get answers a type, with the words that it answers, and absent where get
   -- answers absent or poisoned.

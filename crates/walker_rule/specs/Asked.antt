@@ -1,0 +1,11 @@
+-- The member that a step of the walker asks for, in a table in columns.
+use mathlib.Core.Bool.{cond}
+use mathlib.Core.List.{List, []}
+use Prim.Native.Nat.{ℕ}
+use lib.Dec.{eqb}
+use Rattle.symbol_members.specs.Members.{memberIn}
+use Rattle.plan_steps.specs.StepKind as of-step
+
+-- The words of the member's type where the step is a Member; else none.
+unfoldable pub askedIn : List ℕ → ℕ → List ℕ → ℕ → ℕ → List ℕ
+askedIn ws n store kind id = cond (eqb kind of-step.member) (memberIn ws n store id) []

@@ -1,0 +1,20 @@
+use plan_steps::StepKind;
+use symbol_members::member;
+ghost use mathlib.Core.Path.{_≡_};
+ghost use Rattle.walker_rule.specs.Asked.{askedIn};
+
+// The words of a member's type where the step is a Member; else no words.
+pub fn asked_member<'a>(
+    flat: &[u64; 768],
+    n: usize,
+    store: &'a [u64],
+    kind: u64,
+    id: u64,
+) -> &'a [u64]
+    ensures { λ r. ⌜ now r ≡ askedIn (now (flat .entry)) n (now (store .entry)) kind id ⌝ }
+{
+    if kind == StepKind::MEMBER {
+        return member(flat, n, store, id);
+    }
+    &store[..0]
+}
