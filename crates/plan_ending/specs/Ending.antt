@@ -1,4 +1,4 @@
--- What a settling adds to a walk, in numbers.
+-- What a settling adds to the rounds, in numbers.
 use mathlib.Core.Bool.{Bool, true, false}
 use mathlib.Core.List.{List}
 use Prim.Native.Nat.{ℕ, _-_}

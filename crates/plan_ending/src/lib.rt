@@ -1,4 +1,4 @@
-// The end of a plan: what a settling adds to a walk, in numbers.
+// The end of a plan: what a settling adds to the rounds, in numbers.
 mod ending;
 
 pub use ending::Ending;

@@ -13,7 +13,7 @@ use Rattle.plan_turn.specs.Turn.{ofTurn}
 use Rattle.plan_turn.specs.declared.turn.Turn.{Turn}
 use Rattle.plan_turn.specs.declared.turn.Turn.the-variants.{Stuck, Auto, Element, Desliced, Member}
 use Rattle.plan_rounds.proofs.Pushing.{Pushed, one}
-use Rattle.plan_rounds.specs.Walk.{stepsOf}
+use Rattle.plan_rounds.specs.Rounds.{stepsOf}
 
 module _ (b : List ℕ) (n : ℕ) (a : Step) (t : Turn) (room : 4 * n + 8 ≤ length b) where
   pub none : t ≡ Stuck → Pushed b n b n (stepsOf a (ofTurn t))

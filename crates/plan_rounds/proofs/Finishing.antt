@@ -1,4 +1,4 @@
--- A walk's steps and what the settling adds are the plan's.
+-- The rounds' steps and what the settling adds are the plan's.
 -- Assumes nothing.
 use mathlib.Core.Path.{_≡_, refl, sym, ap, _∙_}
 use mathlib.Core.Bool.{Bool, true, false, cond, true≢false, false≢true}
@@ -20,9 +20,9 @@ use Rattle.plan_settling.specs.declared.settling.Settling.{Settling}
 use Rattle.plan_settling.specs.declared.settling.Settling.the-variants as settling
 use Rattle.plan_settling.specs.Settling.{settleBy, ofSettling, Settles}
 use Rattle.plan_ending.specs.declared.ending.Ending.{Ending}
-use Rattle.plan_rounds.specs.Walked.{withSettling}
+use Rattle.plan_rounds.specs.Settled.{withSettling}
 use Rattle.plan_report.specs.Report.{delivered}
-use Rattle.plan_rounds.specs.Walked.{finished}
+use Rattle.plan_rounds.specs.Settled.{finished}
 use Rattle.plan_ending.specs.Ending.{endingOf, bodyOf}
 use Rattle.plan_report.specs.Plan.{planned}
 use Rattle.plan_rounds.proofs.Pushing.{Pushed}

@@ -15,8 +15,8 @@ use Rattle.plan_turn.specs.Turn.{Turn}
 use Rattle.plan_turn.proofs.Cases.{cases}
 use Rattle.symbol_members.specs.Stored.{Stored}
 use Rattle.symbol_members.specs.Members.{ofLayers}
-use Rattle.plan_rounds.specs.Walk.{goes, turnAt, memberType}
-use Rattle.plan_rounds.specs.Round.{onto}
+use Rattle.plan_rounds.specs.Rounds.{goes, turnAt, memberType}
+use Rattle.plan_rounds.specs.Onto.{onto}
 use Rattle.plan_rounds.proofs.Refusing.{memberRefusal, refusal}
 
 -- the layers inside

@@ -1,4 +1,4 @@
--- What the walk's loop keeps, its ways on and out, as the code meets them.
+-- What the rounds' loop keeps, its ways on and out, as the code meets them.
 -- Assumes nothing.
 use mathlib.Core.Path.{_≡_, refl, sym, ap, _∙_}
 use mathlib.Core.List.{List}
@@ -16,16 +16,16 @@ use Rattle.plan_report.specs.declared.report.Report.{Report}
 use Rattle.plan_report.specs.Plan.{Plan}
 use Rattle.plan_report.specs.Report.{notGiven, told, stepsOver, typeOver}
 use Rattle.plan_report.proofs.Delivering as outcome
-use Rattle.plan_rounds.specs.Walk.{stepsOf, takenBy, turnAt}
-use Rattle.plan_rounds.specs.Round.{onto}
+use Rattle.plan_rounds.specs.Rounds.{stepsOf, takenBy, turnAt}
+use Rattle.plan_rounds.specs.Onto.{onto}
 use Rattle.plan_rounds.proofs.Refusing.{refusal}
-use Rattle.plan_rounds.specs.Walked.{AllWhole, finished, walked}
+use Rattle.plan_rounds.specs.Settled.{AllWhole, finished, planInRounds}
 use Rattle.plan_rounds.proofs.Pushing.{Pushed}
 use Rattle.plan_rounds.proofs.Reading.{onto-whole}
 use Rattle.plan_rounds.proofs.Turning.{So, start, ends, stops, turns, steps-few, took-few}
-use Rattle.plan_rounds.proofs.Outcomes.{walk-refused, walk-ended}
+use Rattle.plan_rounds.proofs.Outcomes.{rounds-refused, rounds-ended}
 
--- the walk from the start is the steps so far before the walk from here; and the bounds
+-- the rounds from the start are the steps so far before the rounds from here; and the bounds
 pub record Along (member : ℕ → List ℕ) (rounds : ℕ) (known asked buf cur rest : List ℕ) (i n taken : ℕ) : Type 0 where
   so : So member rounds known asked buf cur rest i n taken
   within : i ≤ rounds
@@ -68,40 +68,40 @@ module _ (member : ℕ → List ℕ) (rounds : ℕ) (known asked buf cur rest : 
   taken-fits t k h e = record { fits = omega (arith, a .within, a .least, took-few t) }
 
   module _ (target : List ℕ) (level room wide : ℕ) where
-    abbrev whole-walk : Answer Plan
-    whole-walk = walked member known asked target level rounds room wide
+    abbrev whole-plan : Answer Plan
+    whole-plan = planInRounds member known asked target level rounds room wide
 
     -- left: by the rounds, or by the asked steps
     module _ (out : (rounds ≤ i) ⊎ (length rest < 4)) where
       abbrev end : Answer Plan
       end = finished (take (4 * n) buf) taken (layers cur) (layers target) level room wide
 
-      same : end ≡ whole-walk
-      same = sym (walk-ended member known asked target level rounds room wide (take (4 * n) buf) taken (layers cur) (ends member rounds known asked buf cur rest i n taken (a .so) out))
+      same : end ≡ whole-plan
+      same = sym (rounds-ended member known asked target level rounds room wide (take (4 * n) buf) taken (layers cur) (ends member rounds known asked buf cur rest i n taken (a .so) out))
 
-      pub told-end : (r : Report) → r ≡ told end → r ≡ told whole-walk
+      pub told-end : (r : Report) → r ≡ told end → r ≡ told whole-plan
       told-end r q = q ∙ ap told same
 
-      pub steps-end : (s after : List ℕ) → after ≡ stepsOver end s → after ≡ stepsOver whole-walk s
+      pub steps-end : (s after : List ℕ) → after ≡ stepsOver end s → after ≡ stepsOver whole-plan s
       steps-end s after q = q ∙ ap (λ (p : Answer Plan). stepsOver p s) same
 
-      pub type-end : (s after : List ℕ) → after ≡ typeOver end s → after ≡ typeOver whole-walk s
+      pub type-end : (s after : List ℕ) → after ≡ typeOver end s → after ≡ typeOver whole-plan s
       type-end s after q = q ∙ ap (λ (p : Answer Plan). typeOver p s) same
 
   -- one round
   module _ (lt : i < rounds) (more : 4 ≤ length rest) (t : Turn) (is : t ≡ turnAt (layers cur) (stepAt rest)) (next : List ℕ)
       (f : next ≡ onto member cur (stepAt rest .handle) t) where
     module _ (target : List ℕ) (level room wide : ℕ) (e : ℕ) (g : e ≡ refusal t (layers next)) (z : 0 < e) where
-      refusing : walked member known asked target level rounds room wide ≡ refused e 0
-      refusing = walk-refused member known asked target level rounds room wide e (stops member rounds known asked buf cur rest i n taken (a .so) lt more t is next f e g (λ q. omega (arith, q)))
+      refusing : planInRounds member known asked target level rounds room wide ≡ refused e 0
+      refusing = rounds-refused member known asked target level rounds room wide e (stops member rounds known asked buf cur rest i n taken (a .so) lt more t is next f e g (λ q. omega (arith, q)))
 
-      pub told-refusal : (r : Report) → r ≡ notGiven e 0 → r ≡ told (walked member known asked target level rounds room wide)
+      pub told-refusal : (r : Report) → r ≡ notGiven e 0 → r ≡ told (planInRounds member known asked target level rounds room wide)
       told-refusal r q = outcome.told-refused e 0 _ refusing r q
 
-      pub steps-stay : (s : List ℕ) → s ≡ stepsOver (walked member known asked target level rounds room wide) s
+      pub steps-stay : (s : List ℕ) → s ≡ stepsOver (planInRounds member known asked target level rounds room wide) s
       steps-stay s = outcome.steps-stay e 0 _ refusing s
 
-      pub type-stays : (s : List ℕ) → s ≡ typeOver (walked member known asked target level rounds room wide) s
+      pub type-stays : (s : List ℕ) → s ≡ typeOver (planInRounds member known asked target level rounds room wide) s
       type-stays s = outcome.type-stays e 0 _ refusing s
 
     pub along-turn : 0 ≡ refusal t (layers next) → AllWhole member → (buf′ rest′ : List ℕ) (n′ k : ℕ) → Pushed buf n buf′ n′ (stepsOf (stepAt rest) t) → length buf′ ≡ length buf → k ≡ takenBy t → rest′ ≡ drop (4 * k) rest →

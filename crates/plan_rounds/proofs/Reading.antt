@@ -18,10 +18,10 @@ use Rattle.plan_turn.specs.Turn as paper
 use Rattle.plan_turn.specs.Turn.{ofTurn}
 use Rattle.plan_turn.specs.declared.turn.Turn.{Turn}
 use Rattle.plan_turn.specs.declared.turn.Turn.the-variants.{Stuck, Auto, Element, Desliced, Member}
-use Rattle.plan_rounds.specs.Walk.{turnAt}
-use Rattle.plan_rounds.specs.Round.{onto}
+use Rattle.plan_rounds.specs.Rounds.{turnAt}
+use Rattle.plan_rounds.specs.Onto.{onto}
 use Rattle.plan_rounds.proofs.Refusing.{refusal}
-use Rattle.plan_rounds.specs.Walked.{AllWhole}
+use Rattle.plan_rounds.specs.Settled.{AllWhole}
 
 -- a word past the end
 pub past : (q : List ℕ) (i : ℕ) → length q ≤ i → 0 ≡ getD q i 0

@@ -1,4 +1,4 @@
--- One turn of the walk's loop and its ways out, over the definitions alone.
+-- One turn of the rounds' loop and its ways out, over the definitions alone.
 -- Assumes nothing.
 use mathlib.Core.Path.{_≡_, refl, sym, ap, _∙_}
 use mathlib.Core.Bool.{Bool, true, false}
@@ -17,8 +17,8 @@ use Rattle.plan_steps.proofs.Words.{stepAt, steps-none, steps-more, words-appen
 use Rattle.plan_turn.specs.Turn.{Turn, Stuck, Auto, Element, Desliced, Member}
 use Rattle.symbol_members.specs.Stored.{Stored}
 use Rattle.symbol_members.specs.Members.{ofLayers}
-use Rattle.plan_rounds.specs.Walk.{Walk, ended, stopped, stepsOf, takenBy, goes, turnAt, prepend, walk}
-use Rattle.plan_rounds.specs.Round.{onto}
+use Rattle.plan_rounds.specs.Rounds.{Rounds, ended, stopped, stepsOf, takenBy, goes, turnAt, prepend, inRounds}
+use Rattle.plan_rounds.specs.Onto.{onto}
 use Rattle.plan_rounds.proofs.Refusing.{refusal}
 use Rattle.plan_rounds.proofs.Pushing.{Pushed}
 use Rattle.plan_rounds.proofs.Going.{going}
@@ -51,33 +51,33 @@ steps-drop (suc zero) q h = by-length (leb 4 (length q)) refl
 steps-drop (suc (suc k)) q h = absurd (omega arith)
 
 module _ (stored : ℕ → Stored) where
-  prepend-prepend : (a b : List Step) (j k : ℕ) (w : Walk) → prepend stored a j (prepend stored b k w) ≡ prepend stored (a ++ b) (j + k) w
+  prepend-prepend : (a b : List Step) (j k : ℕ) (w : Rounds) → prepend stored a j (prepend stored b k w) ≡ prepend stored (a ++ b) (j + k) w
   prepend-prepend a b j k (ended us m c) = simp (append-assoc, add-assoc)
   prepend-prepend a b j k (stopped n) = refl
 
-  prepend-none : (w : Walk) → prepend stored [] 0 w ≡ w
+  prepend-none : (w : Rounds) → prepend stored [] 0 w ≡ w
   prepend-none (ended us m c) = rw zero-add
   prepend-none (stopped n) = refl
 
-  walk-none : (n : ℕ) (t : List Layer) (q : List Step) → q ≡ [] → walk stored n t q ≡ ended [] 0 t
-  unfolding walk
-  walk-none zero t q e = refl
-  walk-none (suc n) t q e = rw e refl
+  rounds-none : (n : ℕ) (t : List Layer) (q : List Step) → q ≡ [] → inRounds stored n t q ≡ ended [] 0 t
+  unfolding inRounds
+  rounds-none zero t q e = refl
+  rounds-none (suc n) t q e = rw e refl
 
-  walk-out : (t : List Layer) (q : List Step) → walk stored 0 t q ≡ ended [] 0 t
-  unfolding walk
-  walk-out t q = refl
+  rounds-out : (t : List Layer) (q : List Step) → inRounds stored 0 t q ≡ ended [] 0 t
+  unfolding inRounds
+  rounds-out t q = refl
 
-  walk-more : (n : ℕ) (t : List Layer) (a : Step) (q : List Step) (u : List Layer) → goes stored t a (turnAt t a) ≡ given u →
-      walk stored (suc n) t (a ∷ q) ≡ prepend stored (stepsOf a (turnAt t a)) (takenBy (turnAt t a)) (walk stored n u (drop (takenBy (turnAt t a)) (a ∷ q)))
-  unfolding walk
-  walk-more n t a q u g = rw g refl
+  rounds-more : (n : ℕ) (t : List Layer) (a : Step) (q : List Step) (u : List Layer) → goes stored t a (turnAt t a) ≡ given u →
+      inRounds stored (suc n) t (a ∷ q) ≡ prepend stored (stepsOf a (turnAt t a)) (takenBy (turnAt t a)) (inRounds stored n u (drop (takenBy (turnAt t a)) (a ∷ q)))
+  unfolding inRounds
+  rounds-more n t a q u g = rw g refl
 
-  walk-stops : (n : ℕ) (t : List Layer) (a : Step) (q : List Step) (e p : ℕ) → goes stored t a (turnAt t a) ≡ refused e p → walk stored (suc n) t (a ∷ q) ≡ stopped e
-  unfolding walk
-  walk-stops n t a q e p g = rw g refl
+  rounds-stop : (n : ℕ) (t : List Layer) (a : Step) (q : List Step) (e p : ℕ) → goes stored t a (turnAt t a) ≡ refused e p → inRounds stored (suc n) t (a ∷ q) ≡ stopped e
+  unfolding inRounds
+  rounds-stop n t a q e p g = rw g refl
 
--- what the loop keeps: the walk from the start is the steps so far before the walk from here
+-- what the loop keeps: the rounds from the start are the steps so far before the rounds from here
 module _ (member : ℕ → List ℕ) where
   abbrev stored : ℕ → Stored
   stored id = ofLayers (layers (member id))
@@ -86,19 +86,19 @@ module _ (member : ℕ → List ℕ) where
     pub ss : List Step
     pub count : n ≡ length ss
     pub words : take (4 * n) buf ≡ stepWords ss
-    pub same : walk stored rounds (layers known) (steps asked) ≡ prepend stored ss taken (walk stored (rounds - i) (layers cur) (steps rest))
+    pub same : inRounds stored rounds (layers known) (steps asked) ≡ prepend stored ss taken (inRounds stored (rounds - i) (layers cur) (steps rest))
 
   pub start : (rounds : ℕ) (known asked buf : List ℕ) → So rounds known asked buf known asked 0 0 0
   unfolding stepWords
-  start rounds known asked buf = record { ss = []; count = refl; words = refl; same = rw (sub-zero, prepend-none stored (walk stored rounds (layers known) (steps asked))) }
+  start rounds known asked buf = record { ss = []; count = refl; words = refl; same = rw (sub-zero, prepend-none stored (inRounds stored rounds (layers known) (steps asked))) }
 
   module _ (rounds : ℕ) (known asked buf cur rest : List ℕ) (i n taken : ℕ) (so : So rounds known asked buf cur rest i n taken) where
     -- left: by the rounds, or by the asked steps
-    pub ends : (rounds ≤ i) ⊎ (length rest < 4) → walk stored rounds (layers known) (steps asked) ≡ ended (steps (take (4 * n) buf)) taken (layers cur)
+    pub ends : (rounds ≤ i) ⊎ (length rest < 4) → inRounds stored rounds (layers known) (steps asked) ≡ ended (steps (take (4 * n) buf)) taken (layers cur)
     ends out =
-        let gone : walk stored (rounds - i) (layers cur) (steps rest) ≡ ended [] 0 (layers cur) =
-        ⊎-elim (λ (h : rounds ≤ i). let z : rounds - i ≡ 0 = omega arith in rw z (walk-out stored (layers cur) (steps rest)))
-        (λ (h : length rest < 4). walk-none stored (rounds - i) (layers cur) (steps rest) (steps-none rest h)) out in
+        let gone : inRounds stored (rounds - i) (layers cur) (steps rest) ≡ ended [] 0 (layers cur) =
+        ⊎-elim (λ (h : rounds ≤ i). let z : rounds - i ≡ 0 = omega arith in rw z (rounds-out stored (layers cur) (steps rest)))
+        (λ (h : length rest < 4). rounds-none stored (rounds - i) (layers cur) (steps rest) (steps-none rest h)) out in
         rw (so .same, gone, append-nil, add-zero, so .words, words-back (so .ss)) refl
 
     -- one round
@@ -110,12 +110,12 @@ module _ (member : ℕ → List ℕ) where
       goes-on : e ≡ 0 → goes stored (layers cur) (stepAt rest) (turnAt (layers cur) (stepAt rest)) ≡ given (layers next)
       goes-on z = rw (f, is) (going member cur (stepAt rest) .0 (rw (f, is) at (sym g ∙ z)))
 
-      pub stops : (e ≡ 0 → ⊥) → walk stored rounds (layers known) (steps asked) ≡ stopped e
+      pub stops : (e ≡ 0 → ⊥) → inRounds stored rounds (layers known) (steps asked) ≡ stopped e
       stops z =
           let same : e ≡ refusal (turnAt (layers cur) (stepAt rest)) (layers (onto member cur (stepAt rest .handle) (turnAt (layers cur) (stepAt rest)))) = rw (f, is) at g in
           let r : goes stored (layers cur) (stepAt rest) (turnAt (layers cur) (stepAt rest)) ≡ refused e 0 =
           going member cur (stepAt rest) .1 (λ o. z (same ∙ o)) ∙ ap (λ (k : ℕ). refused k 0) (sym same) in
-          rw (so .same, left, steps-more rest more, walk-stops stored (rounds - (i + 1)) (layers cur) (stepAt rest) (steps (drop 4 rest)) e 0 r) refl
+          rw (so .same, left, steps-more rest more, rounds-stop stored (rounds - (i + 1)) (layers cur) (stepAt rest) (steps (drop 4 rest)) e 0 r) refl
 
       pub turns : e ≡ 0 → (buf′ rest′ : List ℕ) (n′ k : ℕ) → Pushed buf n buf′ n′ (stepsOf (stepAt rest) t) → k ≡ takenBy t → rest′ ≡ drop (4 * k) rest →
           So rounds known asked buf′ next rest′ (i + 1) n′ (taken + k)
@@ -128,5 +128,5 @@ module _ (member : ℕ → List ℕ) where
             count = pushed .0 ∙ rw (so .count, length-append);
             words = pushed .1 ∙ rw (so .words, words-append);
             same =
-                rw (so .same, left, steps-more rest more, walk-more stored (rounds - (i + 1)) (layers cur) (stepAt rest) (steps (drop 4 rest)) (layers next) (goes-on z), prepend-prepend stored, ← is, ← after, ek) refl;
+                rw (so .same, left, steps-more rest more, rounds-more stored (rounds - (i + 1)) (layers cur) (stepAt rest) (steps (drop 4 rest)) (layers next) (goes-on z), prepend-prepend stored, ← is, ← after, ek) refl;
           }

@@ -1,3 +1,3 @@
-pub mod Walk
-pub mod Round
-pub mod Walked
+pub mod Rounds
+pub mod Onto
+pub mod Settled

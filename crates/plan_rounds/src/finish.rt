@@ -13,7 +13,7 @@ ghost use lib.ListN.{length, take, replicate};
 ghost use Rattle.type_layers.specs.Layers.{layers, Whole};
 ghost use Rattle.plan_steps.specs.Steps.{step, stepWords};
 ghost use Rattle.plan_report.specs.Report as report;
-ghost use Rattle.plan_rounds.specs.Walked.{finished};
+ghost use Rattle.plan_rounds.specs.Settled.{finished};
 
 // Writes so many steps of a kind from step n on; where the next step goes.
 fn push_autos(buf: &mut [u64], n: usize, kind: u64, count: usize) -> usize
@@ -29,7 +29,7 @@ fn push_autos(buf: &mut [u64], n: usize, kind: u64, count: usize) -> usize
     n + count
 }
 
-// Settles the walk that ended on cur, with n steps in buf, and writes the plan.
+// Settles the rounds that ended on cur, with n steps in buf, and writes the plan.
 pub(crate) fn finish<'a>(
     cur: &'a [u64],
     target: &'a [u64],

@@ -1,6 +1,6 @@
-// The walk of a plan along the asked steps: what one round does, the rounds in a row, and the end of the walk.
+// The rounds of a plan along the asked steps: what one round does, the rounds in a row, and how they are settled.
 mod finish;
 mod round;
 mod rounds;
 
-pub use rounds::walk_asked;
+pub use rounds::plan_in_rounds;

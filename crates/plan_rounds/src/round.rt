@@ -2,9 +2,9 @@ use plan_steps::StepKind;
 use plan_steps::four;
 use plan_turn::Turn;
 use plan_turn::turn_of;
+use symbol_members::member;
 use type_layers::inner;
 use type_layers::outer;
-use symbol_members::member;
 ghost use mathlib.Core.Path.{_≡_};
 ghost use mathlib.Core.List.{_++_};
 ghost use Prim.Native.Nat.{_+_, _*_, _≤_};
@@ -14,8 +14,8 @@ ghost use Rattle.plan_steps.specs.Steps.{stepWords};
 ghost use Rattle.plan_steps.proofs.Words.{stepAt};
 ghost use Rattle.plan_turn.specs.Turn.{ofTurn};
 ghost use Rattle.symbol_members.specs.Members.{memberIn};
-ghost use Rattle.plan_rounds.specs.Walk.{stepsOf, takenBy, turnAt};
-ghost use Rattle.plan_rounds.specs.Round as rounds;
+ghost use Rattle.plan_rounds.specs.Rounds.{stepsOf, takenBy, turnAt};
+ghost use Rattle.plan_rounds.specs.Onto as rounds;
 
 // The word at i, 0 past the end.
 fn word(q: &[u64], i: usize) -> u64

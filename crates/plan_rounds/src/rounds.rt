@@ -13,7 +13,7 @@ ghost use lib.ListN.{length, drop};
 ghost use Rattle.type_layers.specs.Layers.{Whole};
 ghost use Rattle.symbol_members.specs.Members.{memberIn};
 ghost use Rattle.plan_report.specs.Report as report;
-ghost use Rattle.plan_rounds.specs.Walked.{AllWhole, walked};
+ghost use Rattle.plan_rounds.specs.Settled.{AllWhole, planInRounds};
 
 // The steps after the first k.
 fn after(q: &[u64], k: usize) -> &[u64]
@@ -28,9 +28,9 @@ fn after(q: &[u64], k: usize) -> &[u64]
     }
 }
 
-// Walks from the known type along the asked steps, at most so many rounds, left as soon as no asked step is left; then
+// Goes from the known type along the asked steps, at most so many rounds, left as soon as no asked step is left; then
 // settles. The run has room for all the steps: 64 rounds add at most two each, and the settling at most 16.
-pub fn walk_asked<'a>(
+pub fn plan_in_rounds<'a>(
     flat: &[u64; 768],
     count: usize,
     store: &'a [u64],
@@ -44,9 +44,9 @@ pub fn walk_asked<'a>(
 ) -> Report
     requires { ⌜ Whole (now known) × Whole (now target) × (level ≤ 255) × (rounds ≤ 64) ⌝ }
     requires { ⌜ AllWhole (memberIn (now flat) count (now store)) ⌝ }
-    ensures answer { λ r. ⌜ r ≡ report.told (walked (memberIn (now (flat .entry)) count (now (store .entry))) (now (known .entry)) (now (asked .entry)) (now (target .entry)) level rounds (length (now (steps .entry))) (length (now (ty .entry)))) ⌝ }
-    ensures written { λ _. ⌜ now (steps .exit) ≡ report.stepsOver (walked (memberIn (now (flat .entry)) count (now (store .entry))) (now (known .entry)) (now (asked .entry)) (now (target .entry)) level rounds (length (now (steps .entry))) (length (now (ty .entry)))) (now (steps .entry)) ⌝ }
-    ensures reported { λ _. ⌜ now (ty .exit) ≡ report.typeOver (walked (memberIn (now (flat .entry)) count (now (store .entry))) (now (known .entry)) (now (asked .entry)) (now (target .entry)) level rounds (length (now (steps .entry))) (length (now (ty .entry)))) (now (ty .entry)) ⌝ }
+    ensures answer { λ r. ⌜ r ≡ report.told (planInRounds (memberIn (now (flat .entry)) count (now (store .entry))) (now (known .entry)) (now (asked .entry)) (now (target .entry)) level rounds (length (now (steps .entry))) (length (now (ty .entry)))) ⌝ }
+    ensures written { λ _. ⌜ now (steps .exit) ≡ report.stepsOver (planInRounds (memberIn (now (flat .entry)) count (now (store .entry))) (now (known .entry)) (now (asked .entry)) (now (target .entry)) level rounds (length (now (steps .entry))) (length (now (ty .entry)))) (now (steps .entry)) ⌝ }
+    ensures reported { λ _. ⌜ now (ty .exit) ≡ report.typeOver (planInRounds (memberIn (now (flat .entry)) count (now (store .entry))) (now (known .entry)) (now (asked .entry)) (now (target .entry)) level rounds (length (now (steps .entry))) (length (now (ty .entry)))) (now (ty .entry)) ⌝ }
 {
     let mut buf = [0u64; 576];
     let mut cur = known;

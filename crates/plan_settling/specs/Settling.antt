@@ -19,7 +19,7 @@ use Rattle.plan_settling.specs.Line.{Line}
 use Rattle.plan_settling.specs.declared.settling.Settling.{Settling}
 use Rattle.plan_settling.specs.declared.settling.Settling.the-variants as settling
 
--- What the settling adds to a walk: further steps, the reported type, and two flags.
+-- What the settling adds to the rounds: further steps, the reported type, and two flags.
 pub record Settled : Type 0 where
   pub steps : List Step
   pub type : List Layer

@@ -1,4 +1,4 @@
-// How a walk is settled.
+// How a plan is settled where its rounds ended.
 mod settling;
 
 pub use settling::Settling;

@@ -9,7 +9,7 @@ ghost use mathlib.Core.Path.{_≡_};
 ghost use Rattle.type_layers.specs.Layers.{layers};
 ghost use Rattle.plan_settling.specs.Settling as rules;
 
-// How a walk is settled: the line that applies, and of the last line what it comes to.
+// How a plan is settled: the line that applies, and of the last line what it comes to.
 pub enum Settling {
     // (i) The current type, without a step.
     Identical,

@@ -1,4 +1,4 @@
--- One round of the walk, by the kinds of the current type's outer two layers and the asked step.
+-- One round, by the kinds of the current type's outer two layers and the asked step.
 use mathlib.Core.Bool.{cond, _&&_, _||_}
 use Prim.Native.Nat.{ℕ}
 use lib.Dec.{eqb}

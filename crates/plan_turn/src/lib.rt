@@ -1,4 +1,4 @@
-// What one round of the walk decides.
+// What one round decides.
 mod decide_turn;
 mod turn;
 

@@ -21,9 +21,9 @@ use Rattle.plan_settling.specs.Line.{Line}
 use Rattle.plan_settling.specs.Settling.{Settled, settleOtherwise, lineOf, settleBy, settle}
 use Rattle.symbol_members.specs.Stored.{Stored, typed, absent}
 use Rattle.symbol_members.specs.Members.{members}
-use Rattle.plan_rounds.specs.Walk.{Walk, ended, stopped, stepsOf, takenBy, memberType, goes, turnAt, onward, walk}
+use Rattle.plan_rounds.specs.Rounds.{Rounds, ended, stopped, stepsOf, takenBy, memberType, goes, turnAt, onward, inRounds}
 use Rattle.plan_report.specs.Plan.{Plan}
-use Rattle.plan_rounds.specs.Walked.{withSettling, settleWalk}
+use Rattle.plan_rounds.specs.Settled.{withSettling, settleRounds}
 use Rattle.planner.specs.Plan.{planOf}
 use Rattle.plan_report.specs.Report.{delivered, told}
 use Rattle.planner.specs.Answers.{question, planned, planAnswer}
@@ -61,8 +61,8 @@ question-tells known asked target rounds =
     then (checkOf known) _ (check-tells known)
     (then (checkOf target) _ (check-tells target) (either (ltb 64 rounds) _ _ refl (steps-tell 32 asked)))
 
--- the walk
-abbrev stops : Walk → Bool
+-- the rounds
+abbrev stops : Rounds → Bool
 stops (ended ss k c) = true
 stops (stopped n) = not (eqb n 0)
 
@@ -78,24 +78,24 @@ module _ (stored : ℕ → Stored) where
   goes-tells t a (Desliced m) = refl
   goes-tells t a Member = member-tells (stored (a .handle))
 
-  onward-stops : (ss : List Step) (k : ℕ) (x : Answer (List Layer)) (f : List Layer → Walk) → tells x ≡ true → ((u : List Layer) → stops (f u) ≡ true) →
+  onward-stops : (ss : List Step) (k : ℕ) (x : Answer (List Layer)) (f : List Layer → Rounds) → tells x ≡ true → ((u : List Layer) → stops (f u) ≡ true) →
       stops (onward stored ss k x f) ≡ true
   onward-stops ss k (given u) f e h = by-end (f u) (h u)
     where
-      by-end : (w : Walk) → stops w ≡ true → stops (onward stored ss k (given u) (λ v. w)) ≡ true
+      by-end : (w : Rounds) → stops w ≡ true → stops (onward stored ss k (given u) (λ v. w)) ≡ true
       by-end (ended us j c) e = e
       by-end (stopped n) e = e
   onward-stops ss k nothing f e h = refl
   onward-stops ss k (refused n p) f e h = e
 
-  walk-stops : (n : ℕ) (t : List Layer) (q : List Step) → stops (walk stored n t q) ≡ true
-  unfolding walk
-  walk-stops zero t q = refl
-  walk-stops (suc n) t [] = refl
-  walk-stops (suc n) t (a ∷ q) =
+  rounds-stop : (n : ℕ) (t : List Layer) (q : List Step) → stops (inRounds stored n t q) ≡ true
+  unfolding inRounds
+  rounds-stop zero t q = refl
+  rounds-stop (suc n) t [] = refl
+  rounds-stop (suc n) t (a ∷ q) =
       let r = turnAt t a in
-      onward-stops (stepsOf a r) (takenBy r) (goes stored t a r) (λ u. walk stored n u (drop (takenBy r) (a ∷ q))) (goes-tells t a r)
-      (λ u. walk-stops n u (drop (takenBy r) (a ∷ q)))
+      onward-stops (stepsOf a r) (takenBy r) (goes stored t a r) (λ u. inRounds stored n u (drop (takenBy r) (a ∷ q))) (goes-tells t a r)
+      (λ u. rounds-stop n u (drop (takenBy r) (a ∷ q)))
 
 -- the settling
 otherwise-tells : (c : List Layer) (n p : ℕ) → tells (settleOtherwise c n p) ≡ true
@@ -124,14 +124,14 @@ settling-tells ss k (refused n p) e = e
 
 -- the plan
 module _ (stored : ℕ → Stored) (known : List Layer) (asked : List Step) (target : List Layer) (depth limit : ℕ) where
-  by-walk : (w : Walk) → stops w ≡ true → tells (settleWalk w target depth) ≡ true
-  by-walk (ended ss k c) e = settling-tells ss k (settle c target depth) (settle-tells c target depth)
-  by-walk (stopped n) e = e
+  by-rounds : (w : Rounds) → stops w ≡ true → tells (settleRounds w target depth) ≡ true
+  by-rounds (ended ss k c) e = settling-tells ss k (settle c target depth) (settle-tells c target depth)
+  by-rounds (stopped n) e = e
 
   plan-tells : tells (planOf stored known asked target depth limit) ≡ true
   unfolding planOf
   plan-tells =
-      either (not (wellFormed known)) _ _ refl (either (not (wellFormed target)) _ _ refl (by-walk (walk stored limit known asked) (walk-stops stored limit known asked)))
+      either (not (wellFormed known)) _ _ refl (either (not (wellFormed target)) _ _ refl (by-rounds (inRounds stored limit known asked) (rounds-stop stored limit known asked)))
 
 delivery-tells : (room wide : ℕ) (a : Answer Plan) → tells a ≡ true → tells (delivered room wide a) ≡ true
 unfolding delivered

@@ -25,22 +25,22 @@ use Rattle.plan_settling.proofs.Lines.{lines}
 use Rattle.symbol_members.specs.Stored.{Stored, typed}
 use Rattle.walker_rule.specs.Walker.{at, walker, arrives}
 use Rattle.walker_rule.proofs.Where.{at-is}
-use Rattle.plan_rounds.specs.Walk.{ended, walk}
+use Rattle.plan_rounds.specs.Rounds.{ended, inRounds}
 use Rattle.plan_rounds.proofs.Finishing.{depth-few}
 use Rattle.plan_report.specs.Plan.{Plan}
 use Rattle.planner.specs.Plan.{planOf}
 use Rattle.planner.specs.Demand.{Exception, Hidden, Demand}
 use Rattle.planner.specs.Reported.{Reported}
-use Rattle.planner.proofs.Walks.{asked-append, walker-append, walks, in-order, all-taken, no-longer, no-more, all-good, few-steps}
-use Rattle.planner.proofs.Sound.{Passing, Sound, walk-sound}
+use Rattle.planner.proofs.Rounds.{asked-append, walker-append, walks, in-order, all-taken, no-longer, no-more, all-good, few-steps}
+use Rattle.planner.proofs.Sound.{Passing, Sound, rounds-sound}
 use Rattle.planner.proofs.Settles.{Unstepped, exact, settles, must-hide, asks-nothing, adds-good, adds-few}
 use Rattle.planner.proofs.Plans.{planned, every-plan}
 
 module _ (stored : ℕ → Stored) (members : (id : ℕ) (t : List Layer) → stored id ≡ typed t → Passing t)
     (known : List Layer) (passing : Passing known) (q : List Step) (good : goodSteps q ≡ true) (target : List Layer) (depth limit : ℕ) where
-  module _ (formed : wellFormed known ≡ true) (ss : List Step) (k : ℕ) (c : List Layer) (e : walk stored limit known q ≡ ended ss k c) where
+  module _ (formed : wellFormed known ≡ true) (ss : List Step) (k : ℕ) (c : List Layer) (e : inRounds stored limit known q ≡ ended ss k c) where
     sound : Sound c
-    sound = walk-sound stored members limit known q ss k c e (record { formed = formed; passing = passing })
+    sound = rounds-sound stored members limit known q ss k c e (record { formed = formed; passing = passing })
 
     module _ (s : Settled) (f : settle c target depth ≡ given s) where
       along : (us : List Step) (a : Bool) → arrives stored (ss ++ us) a known ≡ arrives stored us a c
@@ -54,7 +54,7 @@ module _ (stored : ℕ → Stored) (members : (id : ℕ) (t : List Layer) → st
         plain = rw (x .is);
       }
 
-      -- the walk ends on one type
+      -- the rounds end on one type
       excepted : Exception stored known target depth ss → Hidden stored known target depth (planned ss k s)
       excepted x =
           let is : x .c ≡ c = at-is (x .c) c (sym (x .ends) ∙ walks stored limit known q ss k c e) in
@@ -64,7 +64,7 @@ module _ (stored : ℕ → Stored) (members : (id : ℕ) (t : List Layer) → st
       meets = record {
         order = asked-append ss (s .steps) ∙ rw (in-order stored limit known q ss k c e, asks-nothing c target depth s f, append-nil);
         few = no-more stored limit known q ss k c e;
-        walked = ss;
+        ofRounds = ss;
         further = s .steps;
         parts = refl;
         unasked = asks-nothing c target depth s f;
@@ -123,7 +123,7 @@ module _ (target : List Layer) (good : goodLayers target ≡ true) where
         (λ e. inr (inl (record { c = c; ends = rw append-nil w; coerced = refl; into = inl (e, refl, refl) })))
         (λ e f. inl (points c target good e f, refl))
         (λ e. inr (inl (record { c = c; ends = rw append-nil w; coerced = refl; into = inr (e, refl, refl) })))
-        (λ is s g. inr (inr (record { walked = ss; further = s .steps; steps = refl; c = c; ends = w; applies = is; gives = g }))) s f
+        (λ is s g. inr (inr (record { ofRounds = ss; further = s .steps; steps = refl; c = c; ends = w; applies = is; gives = g }))) s f
 
     pub reported : (plan : Plan) → planOf stored known q target depth limit ≡ given plan → Reported stored known target depth plan
     reported =

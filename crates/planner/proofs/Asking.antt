@@ -31,7 +31,7 @@ use Rattle.planner.specs.Plan.{planOf}
 use Rattle.plan_report.specs.Report.{delivered, notGiven, told, stepsOver, typeOver}
 use Rattle.plan_report.specs.declared.report.Report.{Report}
 use Rattle.plan_report.proofs.Delivering.{told-refused, steps-stay, type-stays}
-use Rattle.plan_rounds.specs.Walked.{AllWhole, walked}
+use Rattle.plan_rounds.specs.Settled.{AllWhole, planInRounds}
 use Rattle.planner.specs.Answers.{limits, question, planned, planAnswer}
 
 -- the limits
@@ -71,21 +71,21 @@ module _ (ws : List ℕ) (n : ℕ) (store known asked target : List ℕ) (level 
       same-members = λ i id. ofLayers (layers (at-most ws store n id few i))
 
       module _ (i : not u ≡ false) where
-        abbrev walk : Answer Plan
-        walk = walked (memberIn ws n store) known asked target level rounds room wide
+        abbrev whole : Answer Plan
+        whole = planInRounds (memberIn ws n store) known asked target level rounds room wide
 
-        planned-so : walk ≡ outcome
-        unfolding planned planOf walked
+        planned-so : whole ≡ outcome
+        unfolding planned planOf planInRounds
         planned-so = rw (ok, ← p, not-false f g, ← q, not-false u i, same-members) refl
 
-        pub told-walked : (r : Report) → r ≡ told walk → r ≡ told outcome
-        told-walked r e = e ∙ ap told planned-so
+        pub told-planned : (r : Report) → r ≡ told whole → r ≡ told outcome
+        told-planned r e = e ∙ ap told planned-so
 
-        pub steps-walked : (s after : List ℕ) → after ≡ stepsOver walk s → after ≡ stepsOver outcome s
-        steps-walked s after e = e ∙ ap (λ (a : Answer Plan). stepsOver a s) planned-so
+        pub steps-planned : (s after : List ℕ) → after ≡ stepsOver whole s → after ≡ stepsOver outcome s
+        steps-planned s after e = e ∙ ap (λ (a : Answer Plan). stepsOver a s) planned-so
 
-        pub type-walked : (s after : List ℕ) → after ≡ typeOver walk s → after ≡ typeOver outcome s
-        type-walked s after e = e ∙ ap (λ (a : Answer Plan). typeOver a s) planned-so
+        pub type-planned : (s after : List ℕ) → after ≡ typeOver whole s → after ≡ typeOver outcome s
+        type-planned s after e = e ∙ ap (λ (a : Answer Plan). typeOver a s) planned-so
 
 -- the members of a table in order
 pub all-whole : (ws : List ℕ) (n : ℕ) (store : List ℕ) (b : Bool) → b ≡ inOrder (readFrom ws 0 n) store → not b ≡ false → AllWhole (memberIn ws n store)

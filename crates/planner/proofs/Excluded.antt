@@ -30,7 +30,7 @@ use Rattle.walker_rule.proofs.Where.{typeAt}
 use Rattle.plan_report.specs.Plan.{Plan}
 use Rattle.planner.specs.Demand.{unmarked, asked, rounds, Hidden, Demand}
 use Rattle.planner.specs.Reported.{Reported}
-use Rattle.planner.proofs.Walks.{asked-append}
+use Rattle.planner.proofs.Rounds.{asked-append}
 use Rattle.planner.proofs.Table.{leaf, of, int32, array3, asked-element}
 
 -- no table
@@ -78,7 +78,7 @@ pub dropped : Demand none array3 (asked-element 7 ∷ []) int32 0 1 (plan [] 0 a
 unfolding rounds
 dropped d =
     ⊎-elim (λ (e : 0 ≡ 1). absurd (omega (arith, e)))
-    (λ (h : rounds (d .walked) ≡ 1). let e : 0 ≡ 1 = rw (none-before (d .walked) (d .further) (d .parts)) at h in absurd (omega (arith, e)))
+    (λ (h : rounds (d .ofRounds) ≡ 1). let e : 0 ≡ 1 = rw (none-before (d .ofRounds) (d .further) (d .parts)) at h in absurd (omega (arith, e)))
     (d .all)
 
 -- the same question: the right step, and a count that is made up
@@ -111,8 +111,8 @@ asked-rounds (s ∷ ss) = by-kind (leb (s .kind) of-step.member) (eqb (s .kind) 
 in-time : (stored : ℕ → Stored) (known : List Layer) (q : List Step) (target : List Layer) (depth limit : ℕ) (p : Plan) →
     Demand stored known q target depth limit p → length (asked (p .steps)) ≤ limit
 in-time stored known q target depth limit p d =
-    let e : asked (p .steps) ≡ asked (d .walked) = ap asked (d .parts) ∙ asked-append (d .walked) (d .further) ∙ rw (d .unasked, append-nil) refl in
-    omega (arith, ap length e, asked-rounds (d .walked), d .within)
+    let e : asked (p .steps) ≡ asked (d .ofRounds) = ap asked (d .parts) ∙ asked-append (d .ofRounds) (d .further) ∙ rw (d .unasked, append-nil) refl in
+    omega (arith, ap length e, asked-rounds (d .ofRounds), d .within)
 
 -- Array 3 of Array 3 of Array 3 of Int32, three Elements, one round: a plan that takes two, and drops the third for want of
 -- rounds
@@ -176,7 +176,7 @@ pub view-as-it-is : Demand none (of kind.view (of kind.pointer int32)) [] int32 
 unfolding walker references lineOf outer inside pointerDepth identical coerces addressCoerces equals plain
 view-as-it-is d =
     let known : List Layer = of kind.view (of kind.pointer int32) in
-    let w = none-before (d .walked) (d .further) (d .parts) in
+    let w = none-before (d .ofRounds) (d .further) (d .parts) in
     let h = d .except (record { c = known; ends = rw w refl; level = refl; view = refl; last = refl }) in
     absurd (omega (arith, ap length (h .type) ∙ ap (λ (w : Where). length (drop (references (typeAt w)) (typeAt w))) (sym (h .holds .ends))))
 
@@ -211,7 +211,7 @@ coercion-untold r =
     (λ r.
     ⊎-elim (λ h. false≢true (h .coerced))
     (λ h.
-    let ends : at array3 ≡ at (h .c) = rw (none-before (h .walked) (h .further) (h .steps)) at (h .ends) in
+    let ends : at array3 ≡ at (h .c) = rw (none-before (h .ofRounds) (h .further) (h .steps)) at (h .ends) in
     false≢true (ap (λ (w : Where). isLast (lineOf (typeAt w) (of kind.slice int32) 0)) ends ∙ ap isLast (h .applies))) r) r
 
 -- the exception shows: of such a plan the walker does not arrive at the reported type

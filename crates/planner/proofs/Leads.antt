@@ -19,7 +19,7 @@ use Rattle.plan_turn.proofs.Cases.{cases}
 use Rattle.symbol_members.specs.Stored.{Stored, typed, absent}
 use Rattle.walker_rule.specs.Walker.{at, act, walker}
 use Rattle.plan_rounds.proofs.Going.{one-in, two-in}
-use Rattle.plan_rounds.specs.Walk.{stepsOf, takenBy, memberType, goes, turnAt}
+use Rattle.plan_rounds.specs.Rounds.{stepsOf, takenBy, memberType, goes, turnAt}
 use Rattle.planner.specs.Demand.{asked, unmarked, rounds}
 
 pub reached : (m : Stored) (u : List Layer) → memberType m ≡ given u → m ≡ typed u

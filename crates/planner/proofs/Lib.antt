@@ -1,6 +1,6 @@
 -- What the proofs of several functions use, and what follows from the definitions.
 pub mod Leads
-pub mod Walks
+pub mod Rounds
 pub mod Sound
 pub mod Settles
 pub mod Plans

@@ -1,4 +1,4 @@
--- What holds of every walk from a well-formed type that ends and is settled, holds of every plan that is given.
+-- What holds of all rounds from a well-formed type that end and are settled, holds of every plan that is given.
 -- Assumes nothing.
 use mathlib.Core.Path.{_≡_, refl, subst}
 use mathlib.Core.Bool.{Bool, true, false, cond, not}
@@ -14,17 +14,17 @@ use Rattle.type_wellformed.specs.Formed.{wellFormed}
 use Rattle.plan_steps.specs.Steps.{Step}
 use Rattle.plan_settling.specs.Settling.{Settled, settle}
 use Rattle.symbol_members.specs.Stored.{Stored}
-use Rattle.plan_rounds.specs.Walk.{Walk, ended, stopped, walk}
-use Rattle.plan_rounds.specs.Walked.{withSettling, settleWalk}
+use Rattle.plan_rounds.specs.Rounds.{Rounds, ended, stopped, inRounds}
+use Rattle.plan_rounds.specs.Settled.{withSettling, settleRounds}
 use Rattle.plan_report.specs.Plan.{Plan}
 use Rattle.planner.specs.Plan.{planOf}
 
--- the plan of a walk's steps and a settling
+-- the plan of the rounds' steps and a settling
 abbrev pub planned : List Step → ℕ → Settled → Plan
 planned ss k s = record { steps = ss ++ s .steps; taken = k; type = s .type; address = s .address; coerced = s .coerced }
 
 module _ (stored : ℕ → Stored) (known : List Layer) (q : List Step) (target : List Layer) (depth limit : ℕ) (P : Plan → Type 0)
-    (each : wellFormed known ≡ true → (ss : List Step) (k : ℕ) (c : List Layer) → walk stored limit known q ≡ ended ss k c →
+    (each : wellFormed known ≡ true → (ss : List Step) (k : ℕ) (c : List Layer) → inRounds stored limit known q ≡ ended ss k c →
     (s : Settled) → settle c target depth ≡ given s → length (s .type) ≤ 16 → P (planned ss k s))
     (plan : Plan) where
   by-width : (p : Plan) (f : Bool) → ltb 16 (length (p .type)) ≡ f → cond f (refused 15 0) (given p) ≡ given plan → (length (p .type) ≤ 16 → P p) → P plan
@@ -37,13 +37,13 @@ module _ (stored : ℕ → Stored) (known : List Layer) (q : List Step) (target 
   by-settling ss k nothing g h = absurd (nothing-given plan g)
   by-settling ss k (refused n p) g h = absurd (not-given n p plan g)
 
-  by-walk : (w : Walk) → walk stored limit known q ≡ w → wellFormed known ≡ true → settleWalk w target depth ≡ given plan → P plan
-  by-walk (ended ss k c) e f g = by-settling ss k (settle c target depth) g (each f ss k c e)
-  by-walk (stopped n) e f g = absurd (not-given n 0 plan g)
+  by-rounds : (w : Rounds) → inRounds stored limit known q ≡ w → wellFormed known ≡ true → settleRounds w target depth ≡ given plan → P plan
+  by-rounds (ended ss k c) e f g = by-settling ss k (settle c target depth) g (each f ss k c e)
+  by-rounds (stopped n) e f g = absurd (not-given n 0 plan g)
 
   by-forms : (f h : Bool) → wellFormed known ≡ f →
-      cond (not f) (refused 4 0) (cond (not h) (refused 4 0) (settleWalk (walk stored limit known q) target depth)) ≡ given plan → P plan
-  by-forms true true e g = by-walk (walk stored limit known q) refl e g
+      cond (not f) (refused 4 0) (cond (not h) (refused 4 0) (settleRounds (inRounds stored limit known q) target depth)) ≡ given plan → P plan
+  by-forms true true e g = by-rounds (inRounds stored limit known q) refl e g
   by-forms true false e g = absurd (not-given 4 0 plan g)
   by-forms false h e g = absurd (not-given 4 0 plan g)
 

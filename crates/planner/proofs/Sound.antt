@@ -1,4 +1,4 @@
--- The current type of a walk stays well formed, its layers good and at most 16, where those of the known type and the
+-- The current type of the rounds stays well formed, its layers good and at most 16, where those of the known type and the
 -- members are.
 -- Assumes nothing.
 use mathlib.Core.Path.{_≡_, refl}
@@ -20,10 +20,10 @@ use Rattle.plan_steps.specs.Steps.{Step}
 use Rattle.type_layers.proofs.Given.{not-given, given-is}
 use Rattle.plan_turn.proofs.Cases.{cases}
 use Rattle.symbol_members.specs.Stored.{Stored, typed, absent}
-use Rattle.plan_rounds.specs.Walk.{ended, goes, turnAt, memberType, walk}
+use Rattle.plan_rounds.specs.Rounds.{ended, goes, turnAt, memberType, inRounds}
 use Rattle.planner.proofs.Leads.{reached}
 use Rattle.plan_rounds.proofs.Going.{one-in, two-in}
-use Rattle.planner.proofs.Walks.{every-walk}
+use Rattle.planner.proofs.Rounds.{every-rounds}
 
 -- a type of good layers, at most 16
 pub record Passing (t : List Layer) : Type 0 where
@@ -103,8 +103,8 @@ module _ (stored : ℕ → Stored) (pass : (id : ℕ) (t : List Layer) → store
       (λ e f g. rw (← given-is (inside t) u g) (part-sound t (holds (outer t) kind.slicePointer refl e) s))
       (λ e f g. member-sound (a .handle) u g) g
 
-  -- the current type of a walk that ends is sound
-  pub walk-sound : (n : ℕ) (t : List Layer) (q ss : List Step) (k : ℕ) (c : List Layer) → walk stored n t q ≡ ended ss k c → Sound t → Sound c
-  walk-sound n t q ss k c e =
-      every-walk stored (λ n t q ss k c. Sound t → Sound c) (λ t q s. s) (λ n t s. s)
+  -- the current type of rounds that end is sound
+  pub rounds-sound : (n : ℕ) (t : List Layer) (q ss : List Step) (k : ℕ) (c : List Layer) → inRounds stored n t q ≡ ended ss k c → Sound t → Sound c
+  rounds-sound n t q ss k c e =
+      every-rounds stored (λ n t q ss k c. Sound t → Sound c) (λ t q s. s) (λ n t s. s)
       (λ n t a q u us j c g h s. h (goes-sound t a u g s)) n t q ss k c e

@@ -17,7 +17,7 @@ use Rattle.plan_turn.specs.Turns.{turn}
 use Rattle.plan_steps.specs.StepKind as of-step
 use Rattle.plan_steps.specs.Steps.{step}
 use Rattle.plan_settling.specs.Settling.{pointer, settleOtherwise, lineOf, settleBy, settle}
-use Rattle.plan_rounds.specs.Walk.{walk}
+use Rattle.plan_rounds.specs.Rounds.{inRounds}
 use Rattle.symbol_members.specs.Stored.{typed, absent}
 use Rattle.walker_rule.specs.Walker.{walker}
 use Rattle.plan_report.specs.Plan.{Plan}
@@ -39,7 +39,7 @@ pub record Surprises : Type 0 where
   pub slice-pointer-for-itself : planned (of kind.slicePointer int32) [] (of kind.slicePointer int32) 0 64 ≡ refused 10 0
 
 pub surprises : Surprises
-unfolding outer inside references pointerDepth inner element wellFormed identical plain equals coerces addressCoerces viewAutoderefs autoderefs turn settleOtherwise lineOf settleBy settle walk planOf
+unfolding outer inside references pointerDepth inner element wellFormed identical plain equals coerces addressCoerces viewAutoderefs autoderefs turn settleOtherwise lineOf settleBy settle inRounds planOf
 surprises = record {
   void-at-depth-1 = refl;
   pointer-to-void = refl;
@@ -71,5 +71,5 @@ takenOf nothing = 0
 takenOf (refused n p) = 0
 
 pub sixty-four-rounds : takenOf (planOf (λ id. typed deep) deep (replicate 5 (step of-step.member 7 0 0)) (layer kind.struct 1 0 ∷ []) 0 64) ≡ 4
-unfolding outer inside references pointerDepth inner element wellFormed identical plain equals coerces addressCoerces turn settleOtherwise lineOf settleBy settle walk planOf
+unfolding outer inside references pointerDepth inner element wellFormed identical plain equals coerces addressCoerces turn settleOtherwise lineOf settleBy settle inRounds planOf
 sixty-four-rounds = refl

@@ -18,7 +18,7 @@ use Rattle.plan_steps.specs.Steps.{Step, step}
 use Rattle.plan_turn.specs.Turns.{turn}
 use Rattle.plan_settling.specs.Settling.{settleOtherwise, lineOf, settleBy, settle}
 use Rattle.symbol_members.specs.Stored.{absent}
-use Rattle.plan_rounds.specs.Walk.{walk}
+use Rattle.plan_rounds.specs.Rounds.{inRounds}
 use Rattle.plan_report.specs.Plan.{Plan}
 use Rattle.planner.specs.Plan.{planOf}
 
@@ -73,7 +73,7 @@ pub record Table : Type 0 where
   pub to-pointer-to-pointer : planned int32 [] (of kind.pointer (of kind.pointer int32)) 2 64 ≡ refused 9 0
 
 pub table : Table
-unfolding outer inside references pointerDepth inner element wellFormed identical plain equals declared coerces addressCoerces turn settleOtherwise lineOf settleBy settle walk planOf
+unfolding outer inside references pointerDepth inner element wellFormed identical plain equals declared coerces addressCoerces turn settleOtherwise lineOf settleBy settle inRounds planOf
 table = record {
   char8-equals-uint8 = refl;
   char8-not-declared = refl;

@@ -33,10 +33,10 @@ rounds [] = 0
 rounds (s ∷ ss) = cond (eqb (s .kind) of-step.autodeslice) (rounds ss) (rounds ss + 1)
 
 -- "One exception: at address depth 0, when the walk ends on a view and only the last settling rule applies,": the walker
--- takes the walk's steps to c.
-pub record Exception (stored : ℕ → Stored) (known target : List Layer) (depth : ℕ) (walked : List Step) : Type 0 where
+-- takes the steps of the rounds to c.
+pub record Exception (stored : ℕ → Stored) (known target : List Layer) (depth : ℕ) (ofRounds : List Step) : Type 0 where
   pub c : List Layer
-  pub ends : walker stored walked known ≡ at c
+  pub ends : walker stored ofRounds known ≡ at c
   pub level : depth ≡ 0
   pub view : outer c ≡ kind.view
   pub last : lineOf c target depth ≡ line.vii
@@ -53,18 +53,18 @@ pub record Demand (stored : ℕ → Stored) (known : List Layer) (q : List Step)
   -- first,": as many of them as the plan says that it took.
   pub order : asked (plan .steps) ≡ map unmarked (take (plan .taken) q)
   pub few : plan .taken ≤ length q
-  -- The steps are those of a walk, of no more rounds than allowed, and further ones that nobody asked for.
-  pub walked : List Step
+  -- The steps are those of the rounds, no more rounds than allowed, and further ones that nobody asked for.
+  pub ofRounds : List Step
   pub further : List Step
-  pub parts : plan .steps ≡ walked ++ further
+  pub parts : plan .steps ≡ ofRounds ++ further
   pub unasked : asked further ≡ []
-  pub within : rounds walked ≤ limit
+  pub within : rounds ofRounds ≤ limit
   -- "and all of them unless the round limit stopped the walk."
-  pub all : (plan .taken ≡ length q) ⊎ (rounds walked ≡ limit)
+  pub all : (plan .taken ≡ length q) ⊎ (rounds ofRounds ≡ limit)
   -- Each step is one: its marks are marks, and its unused words are 0.
   pub good : goodSteps (plan .steps) ≡ true
   -- "A plain walker, knowing only what one step does to a type, takes the plan's steps from the known type, then the address
   -- if flagged, and arrives at exactly the reported type."
   pub there : (arrives stored (plan .steps) (plan .address) known ≡ at (plan .type)) ⊎ Hidden stored known target depth plan
   -- Where the exception applies, the plan reports what it says.
-  pub except : Exception stored known target depth walked → Hidden stored known target depth plan
+  pub except : Exception stored known target depth ofRounds → Hidden stored known target depth plan

@@ -1,4 +1,4 @@
--- A plan: the checks of its types, the walk, then the settling.
+-- A plan: the checks of its types, the rounds, then the settling.
 use mathlib.Core.Bool.{cond, not}
 use mathlib.Core.List.{List}
 use Prim.Native.Nat.{ℕ}
@@ -8,12 +8,12 @@ use Rattle.type_wellformed.specs.Formed.{wellFormed}
 use Rattle.plan_steps.specs.Steps.{Step}
 use Rattle.symbol_members.specs.Stored.{Stored}
 use Rattle.plan_report.specs.Plan.{Plan}
-use Rattle.plan_rounds.specs.Walk.{walk}
-use Rattle.plan_rounds.specs.Walked.{settleWalk}
+use Rattle.plan_rounds.specs.Rounds.{inRounds}
+use Rattle.plan_rounds.specs.Settled.{settleRounds}
 
 -- "Known, target and member types must be well formed, else 4": known, then target.
 unfoldable pub planOf : (ℕ → Stored) → List Layer → List Step → List Layer → ℕ → ℕ → Answer Plan
 planOf stored known asked target depth rounds =
     cond (not (wellFormed known)) (refused 4 0)
     (cond (not (wellFormed target)) (refused 4 0)
-    (settleWalk (walk stored rounds known asked) target depth))
+    (settleRounds (inRounds stored rounds known asked) target depth))

@@ -31,11 +31,11 @@ pub record Coerced (stored : ℕ → Stored) (known target : List Layer) (plan :
 -- The plan's first steps lead the walker to a type c at which line (vii) applies, and its further steps, its type and its
 -- flags are what that line gives.
 pub record Last (stored : ℕ → Stored) (known target : List Layer) (depth : ℕ) (plan : Plan) : Type 0 where
-  pub walked : List Step
+  pub ofRounds : List Step
   pub further : List Step
-  pub steps : plan .steps ≡ walked ++ further
+  pub steps : plan .steps ≡ ofRounds ++ further
   pub c : List Layer
-  pub ends : walker stored walked known ≡ at c
+  pub ends : walker stored ofRounds known ≡ at c
   pub applies : lineOf c target depth ≡ line.vii
   pub gives : settleOtherwise c depth (pointerDepth c) ≡ given (settled further (plan .type) (plan .address) (plan .coerced))
 

@@ -1,6 +1,6 @@
 use plan_report::Report;
 use plan_report::refuse;
-use plan_rounds::walk_asked;
+use plan_rounds::plan_in_rounds;
 use plan_steps::check_steps;
 use symbol_order::in_order;
 use type_first_refusal::check_type;
@@ -72,7 +72,7 @@ fn plan_checked<'a>(
     if !is_wellformed(target) {
         return refuse(4, 0);
     }
-    walk_asked(
+    plan_in_rounds(
         flat,
         count,
         store,

@@ -1,6 +1,6 @@
 use borrow.Author.Needs.{needs}
 use Rattle.plan_report.proofs.Delivering.{told-refused, steps-stay, type-stays}
-use Rattle.planner.proofs.Asking.{out-of-order, known-ill-formed, target-ill-formed, told-walked, steps-walked, type-walked, all-whole, byte}
+use Rattle.planner.proofs.Asking.{out-of-order, known-ill-formed, target-ill-formed, told-planned, steps-planned, type-planned, all-whole, byte}
 use Rattle.planner.proofs.plan_checks.plan_checked.Statement.{statement}
 use Rattle.planner.proofs.plan_checks.plan_checked.Tie as tie
 
@@ -20,4 +20,4 @@ plan-checked-spec =
     (λ c κs. ((search needs, search needs, search byte, search needs), search all-whole))
     (λ c. search needs)
     (λ c. search needs)
-    (λ c. (search told-walked, (search steps-walked, search type-walked))))
+    (λ c. (search told-planned, (search steps-planned, search type-planned))))

@@ -12,10 +12,10 @@ use Rattle.plan_turn.specs.Turn.{Turn, Stuck, Auto, Element, Desliced, Member}
 use Rattle.plan_turn.specs.Turns.{turn}
 use Rattle.symbol_members.specs.Stored.{Stored, typed, absent}
 
--- How a walk ends: the steps so far, how many asked steps were taken, and the current type; or with a refusal's number.
-pub data Walk : Type 0 where
-  ended : List Step → ℕ → List Layer → Walk
-  stopped : ℕ → Walk
+-- How the rounds end: with the steps so far, how many asked steps were taken, and the current type; or with a refusal's number.
+pub data Rounds : Type 0 where
+  ended : List Step → ℕ → List Layer → Rounds
+  stopped : ℕ → Rounds
 
 -- What a round adds to the plan: its steps, and how many asked steps it takes.
 abbrev pub stepsOf : Step → Turn → List Step
@@ -50,19 +50,19 @@ module _ (stored : ℕ → Stored) where
   goes t a (Desliced m) = given (inside t)
   goes t a Member = memberType (stored (a .handle))
 
-  abbrev pub prepend : List Step → ℕ → Walk → Walk
+  abbrev pub prepend : List Step → ℕ → Rounds → Rounds
   prepend ss k (ended us j c) = ended (ss ++ us) (k + j) c
   prepend ss k (stopped n) = stopped n
 
-  abbrev pub onward : List Step → ℕ → Answer (List Layer) → (List Layer → Walk) → Walk
+  abbrev pub onward : List Step → ℕ → Answer (List Layer) → (List Layer → Rounds) → Rounds
   onward ss k (given u) f = prepend ss k (f u)
   onward ss k nothing f = stopped 8
   onward ss k (refused n p) f = stopped n
 
   -- "Rounds used up: remaining asked steps are dropped and the count taken is reported."
-  unfoldable pub walk : ℕ → List Layer → List Step → Walk
-  walk zero t q = ended [] 0 t
-  walk (suc n) t [] = ended [] 0 t
-  walk (suc n) t (a ∷ q) =
+  unfoldable pub inRounds : ℕ → List Layer → List Step → Rounds
+  inRounds zero t q = ended [] 0 t
+  inRounds (suc n) t [] = ended [] 0 t
+  inRounds (suc n) t (a ∷ q) =
       let r = turnAt t a in
-      onward (stepsOf a r) (takenBy r) (goes t a r) (λ u. walk n u (drop (takenBy r) (a ∷ q)))
+      onward (stepsOf a r) (takenBy r) (goes t a r) (λ u. inRounds n u (drop (takenBy r) (a ∷ q)))

@@ -5,8 +5,8 @@ use denote.Ref.{now}
 use Rattle.symbol_members.specs.Members.{memberIn}
 use Rattle.plan_rounds.proofs.Reading.{none-fits, auto-fits, element-fits, desliced-fits, no-member, ill-formed, member-fits}
 use Rattle.plan_rounds.proofs.Looping.{Along, along-start, one-at-most, full, here-whole, push-room, few-steps, end-room, taken-fits, told-end, steps-end, type-end, told-refusal, steps-stay, type-stays, along-turn}
-use Rattle.plan_rounds.proofs.rounds.walk_asked.Statement.{statement}
-use Rattle.plan_rounds.proofs.rounds.walk_asked.Tie as tie
+use Rattle.plan_rounds.proofs.rounds.plan_in_rounds.Statement.{statement}
+use Rattle.plan_rounds.proofs.rounds.plan_in_rounds.Tie as tie
 
 abbrev Inv-loop : tie.InvT-loop
 Inv-loop flat count store known asked target level rounds steps ty buf₀ cur₀ rest₀ i₀ n₀ taken₀ buf cur rest i n taken =
@@ -15,8 +15,8 @@ Inv-loop flat count store known asked target level rounds steps ty buf₀ cur₀
 abbrev μ-loop : tie.MeasureT-loop
 μ-loop flat count store known asked target level rounds steps ty buf₀ cur₀ rest₀ i₀ n₀ taken₀ buf cur rest i n taken = rounds - i
 
-pub walk-asked-spec : {M : Type 1} → statement M
-walk-asked-spec =
+pub plan-in-rounds-spec : {M : Type 1} → statement M
+plan-in-rounds-spec =
     tie.close
     (tie.spec
     Inv-loop

@@ -1,4 +1,4 @@
--- What a walk that has ended tells: the walker goes its steps from the known type to the current one; the asked steps
+-- What rounds that have ended tell: the walker goes their steps from the known type to the current one; the asked steps
 -- among them are the first ones that were asked, in order; they are all of them, or the rounds were used up; each step is
 -- one; and they are few.
 -- Assumes nothing.
@@ -19,7 +19,7 @@ use Rattle.plan_steps.proofs.Words.{good-append}
 use Rattle.type_layers.proofs.Decide.{both}
 use Rattle.symbol_members.specs.Stored.{Stored}
 use Rattle.walker_rule.specs.Walker.{Where, at, stuck, act, then, walker}
-use Rattle.plan_rounds.specs.Walk.{Walk, ended, stopped, stepsOf, takenBy, goes, turnAt, prepend, onward, walk}
+use Rattle.plan_rounds.specs.Rounds.{Rounds, ended, stopped, stepsOf, takenBy, goes, turnAt, prepend, onward, inRounds}
 use Rattle.plan_turn.specs.Turn.{Turn, Stuck, Auto, Element, Desliced, Member}
 use Rattle.plan_rounds.proofs.Turning.{took-few}
 use Rattle.planner.specs.Demand.{asked, unmarked, rounds}
@@ -64,14 +64,14 @@ one-or-two a (Desliced m) = omega arith
 one-or-two a Member = omega arith
 
 module _ (stored : ℕ → Stored) where
-  -- what holds where a walk leaves off, and of a round before a walk of which it holds, holds of every walk that ends
+  -- what holds where rounds leave off, and of a round before rounds of which it holds, holds of all rounds that end
   module _ (P : ℕ → List Layer → List Step → List Step → ℕ → List Layer → Type 0)
       (out : (t : List Layer) (q : List Step) → P 0 t q [] 0 t)
       (done : (n : ℕ) (t : List Layer) → P (suc n) t [] [] 0 t)
       (more : (n : ℕ) (t : List Layer) (a : Step) (q : List Step) (u : List Layer) (us : List Step) (j : ℕ) (c : List Layer) →
       goes stored t a (turnAt t a) ≡ given u → P n u (drop (takenBy (turnAt t a)) (a ∷ q)) us j c →
       P (suc n) t (a ∷ q) (stepsOf a (turnAt t a) ++ us) (takenBy (turnAt t a) + j) c) where
-    abbrev Holds : ℕ → List Layer → List Step → Walk → Type 0
+    abbrev Holds : ℕ → List Layer → List Step → Rounds → Type 0
     Holds n t q (ended ss k c) = P n t q ss k c
     Holds n t q (stopped number) = Unit {0}
 
@@ -79,27 +79,27 @@ module _ (stored : ℕ → Stored) where
       abbrev r : Turn
       r = turnAt t a
 
-      before : (u : List Layer) → goes stored t a r ≡ given u → (w : Walk) → Holds n u (drop (takenBy r) (a ∷ q)) w →
+      before : (u : List Layer) → goes stored t a r ≡ given u → (w : Rounds) → Holds n u (drop (takenBy r) (a ∷ q)) w →
           Holds (suc n) t (a ∷ q) (prepend stored (stepsOf a r) (takenBy r) w)
       before u g (ended us j c) h = more n t a q u us j c g h
       before u g (stopped number) h = tt
 
-      round : (g : Answer (List Layer)) → goes stored t a r ≡ g → (f : List Layer → Walk) →
+      round : (g : Answer (List Layer)) → goes stored t a r ≡ g → (f : List Layer → Rounds) →
           ((u : List Layer) → Holds n u (drop (takenBy r) (a ∷ q)) (f u)) → Holds (suc n) t (a ∷ q) (onward stored (stepsOf a r) (takenBy r) g f)
       round (given u) g f h = before u g (f u) (h u)
       round nothing g f h = tt
       round (refused number p) g f h = tt
 
-    holds : (n : ℕ) (t : List Layer) (q : List Step) → Holds n t q (walk stored n t q)
-    unfolding walk
+    holds : (n : ℕ) (t : List Layer) (q : List Step) → Holds n t q (inRounds stored n t q)
+    unfolding inRounds
     holds zero t q = out t q
     holds (suc n) t [] = done n t
     holds (suc n) t (a ∷ q) =
-        round n t a q (goes stored t a (turnAt t a)) refl (λ u. walk stored n u (drop (takenBy (turnAt t a)) (a ∷ q)))
+        round n t a q (goes stored t a (turnAt t a)) refl (λ u. inRounds stored n u (drop (takenBy (turnAt t a)) (a ∷ q)))
         (λ u. holds n u (drop (takenBy (turnAt t a)) (a ∷ q)))
 
-    pub every-walk : (n : ℕ) (t : List Layer) (q ss : List Step) (k : ℕ) (c : List Layer) → walk stored n t q ≡ ended ss k c → P n t q ss k c
-    every-walk n t q ss k c e = subst (Holds n t q) e (holds n t q)
+    pub every-rounds : (n : ℕ) (t : List Layer) (q ss : List Step) (k : ℕ) (c : List Layer) → inRounds stored n t q ≡ ended ss k c → P n t q ss k c
+    every-rounds n t q ss k c e = subst (Holds n t q) e (holds n t q)
 
   append-on : (w : Where) (ss us : List Step) → ((t : List Layer) → walker stored (ss ++ us) t ≡ then stored (walker stored ss t) (walker stored us)) →
       then stored w (walker stored (ss ++ us)) ≡ then stored (then stored w (walker stored ss)) (walker stored us)
@@ -112,19 +112,19 @@ module _ (stored : ℕ → Stored) where
   walker-append [] us t = refl
   walker-append (s ∷ ss) us t = append-on (act stored s t) ss us (walker-append ss us)
 
-  module _ (n : ℕ) (t : List Layer) (q ss : List Step) (k : ℕ) (c : List Layer) (e : walk stored n t q ≡ ended ss k c) where
-    -- the walker goes the steps of a walk from its type to the current one
+  module _ (n : ℕ) (t : List Layer) (q ss : List Step) (k : ℕ) (c : List Layer) (e : inRounds stored n t q ≡ ended ss k c) where
+    -- the walker goes the steps of the rounds from their type to the current one
     pub walks : walker stored ss t ≡ at c
     unfolding walker
     walks =
-        every-walk (λ n t q ss k c. walker stored ss t ≡ at c) (λ t q. refl) (λ n t. refl)
+        every-rounds (λ n t q ss k c. walker stored ss t ≡ at c) (λ t q. refl) (λ n t. refl)
         (λ n t a q u us j c g h. rw (walker-append (stepsOf a (turnAt t a)) us t, leads stored t a u g) h) n t q ss k c e
 
     -- "the element and member steps are, an element's endless mark aside, the asked ones in order from the first"
     pub in-order : asked ss ≡ map unmarked (take k q)
     unfolding asked
     in-order =
-        every-walk (λ n t q ss k c. asked ss ≡ map unmarked (take k q)) (λ t q. refl) (λ n t. refl)
+        every-rounds (λ n t q ss k c. asked ss ≡ map unmarked (take k q)) (λ t q. refl) (λ n t. refl)
         (λ n t a q u us j c g h.
         asked-append (stepsOf a (turnAt t a)) us
         ∙ rw (takes stored t a q u g, h, take-add (takenBy (turnAt t a)) j (a ∷ q))
@@ -135,7 +135,7 @@ module _ (stored : ℕ → Stored) where
     pub all-taken : (k ≡ length q) ⊎ (rounds ss ≡ n)
     unfolding rounds
     all-taken =
-        every-walk (λ n t q ss k c. (k ≡ length q) ⊎ (rounds ss ≡ n)) (λ t q. inr refl) (λ n t. inl refl)
+        every-rounds (λ n t q ss k c. (k ≡ length q) ⊎ (rounds ss ≡ n)) (λ t q. inr refl) (λ n t. inl refl)
         (λ n t a q u us j c g h.
         ⊎-elim
         (λ (i : j ≡ length (drop (takenBy (turnAt t a)) (a ∷ q))).
@@ -143,31 +143,31 @@ module _ (stored : ℕ → Stored) where
         (λ (i : rounds us ≡ n). inr (rounds-append (stepsOf a (turnAt t a)) us ∙ rw (turns-once stored t a u g, i) (omega arith))) h)
         n t q ss k c e
 
-    -- a walk has no more rounds than allowed
+    -- there are no more rounds than allowed
     pub no-longer : rounds ss ≤ n
     unfolding rounds
     no-longer =
-        every-walk (λ n t q ss k c. rounds ss ≤ n) (λ t q. omega arith) (λ n t. omega arith)
+        every-rounds (λ n t q ss k c. rounds ss ≤ n) (λ t q. omega arith) (λ n t. omega arith)
         (λ n t a q u us j c g h. omega (arith, h, rounds-append (stepsOf a (turnAt t a)) us, turns-once stored t a u g)) n t q ss k c e
 
     -- no more are counted as taken than were asked
     pub no-more : k ≤ length q
     no-more =
-        every-walk (λ n t q ss k c. k ≤ length q) (λ t q. omega arith) (λ n t. omega arith)
+        every-rounds (λ n t q ss k c. k ≤ length q) (λ t q. omega arith) (λ n t. omega arith)
         (λ n t a q u us j c g h. omega (arith, h, length-drop (takenBy (turnAt t a)) (a ∷ q), took-few (turnAt t a))) n t q ss k c e
 
-    -- each step of a walk is one, where each asked one is
+    -- each step of the rounds is one, where each asked one is
     pub all-good : goodSteps q ≡ true → goodSteps ss ≡ true
     unfolding goodSteps
     all-good =
-        every-walk (λ n t q ss k c. goodSteps q ≡ true → goodSteps ss ≡ true) (λ t q g. refl) (λ n t g. refl)
+        every-rounds (λ n t q ss k c. goodSteps q ≡ true → goodSteps ss ≡ true) (λ t q g. refl) (λ n t g. refl)
         (λ n t a q u us j c g h i.
         good-append (stepsOf a (turnAt t a)) us ∙ rw (steps-good stored t a (good-first a q i), h (good-drop (takenBy (turnAt t a)) (a ∷ q) i)) refl)
         n t q ss k c e
 
-    -- a walk has at most one step for each round, and one more for each asked one that it takes
+    -- the rounds have at most one step each, and one more for each asked one that they take
     pub few-steps : length ss ≤ n + k
     few-steps =
-        every-walk (λ n t q ss k c. length ss ≤ n + k) (λ t q. omega arith) (λ n t. omega arith)
+        every-rounds (λ n t q ss k c. length ss ≤ n + k) (λ t q. omega arith) (λ n t. omega arith)
         (λ n t a q u us j c g h.
         omega (arith, h, length-append (stepsOf a (turnAt t a)) us, one-or-two a (turnAt t a))) n t q ss k c e
