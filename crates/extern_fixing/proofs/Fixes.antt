@@ -19,7 +19,8 @@ use Rattle.type_wellformed.specs.Formed.{wellFormed}
 use Rattle.write_words.specs.Written.{written}
 use Rattle.write_words.proofs.Writing.{fits}
 use Rattle.extern_fixing.specs.Fixing.{under, externalized, externalize, fixedExtern, fixed}
-use Rattle.extern_plain.specs.Fixed.{member, fixedPlain}
+use Rattle.type_numbers.specs.Context.{member}
+use Rattle.extern_plain.specs.Fixed.{fixedPlain}
 use Rattle.write_type.specs.Outcome.{delivered, told, over}
 use Rattle.type_checks.proofs.Accepted.{accepted-whole}
 use Rattle.extern_fixing.specs.Answers.{fixedType}

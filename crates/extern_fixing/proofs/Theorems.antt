@@ -16,7 +16,8 @@ use Rattle.type_checks.specs.Check.{Place, at, nowhere, badCount, badLayer, mis
 use Rattle.type_checks.proofs.Accepted.{placed-inside}
 use Rattle.type_wellformed.specs.Formed.{wellFormed, inner, element}
 use Rattle.type_wellformed.proofs.Fits.{one, or, references}
-use Rattle.extern_plain.specs.Fixed.{parameter, returned, member, fixedPlain}
+use Rattle.type_numbers.specs.Context.{parameter, returned, member}
+use Rattle.extern_plain.specs.Fixed.{fixedPlain}
 use Rattle.extern_fixing.specs.Fixing.{under, kept, externalized, externalize, fixedExtern, fixed}
 use Rattle.write_type.specs.Outcome.{delivered}
 use Rattle.extern_fixing.specs.Answers.{fixedType}

@@ -3,10 +3,12 @@ use mathlib.Core.Bool.{Bool, cond, _||_}
 use mathlib.Core.List.{List, [], _∷_, _++_}
 use Prim.Native.Nat.{ℕ, _+_}
 use lib.Dec.{eqb, ltb}
+use Rattle.type_numbers.specs.Refusal as refusal
+use Rattle.type_numbers.specs.Context as of-context
 use Rattle.type_numbers.specs.Kind as kind
 use Rattle.type_layers.specs.Layers.{Layer, layer, outer, inside, isReference}
 use Rattle.type_layers.specs.Answer.{Answer, given, nothing, refused}
-use Rattle.extern_plain.specs.Fixed.{member, fixedPlain}
+use Rattle.extern_plain.specs.Fixed.{fixedPlain}
 use Rattle.type_wellformed.specs.Formed.{wellFormed}
 
 -- Layers around a type that was made. A refusal stands.
@@ -32,16 +34,16 @@ kept k =
 -- "goes inside Pointer and View; makes Arraylike an EndlessArray; refuses the rest with 6 and the layer."
 -- The type handed to it starts at layer p of the type given.
 unfoldable pub externalized : ℕ → List Layer → Answer (List Layer)
-externalized p [] = refused 6 p
+externalized p [] = refused refusal.notInExtern p
 externalized p (x ∷ a) =
     cond (kept (x .kind)) (given (x ∷ a))
     (cond (isReference (x .kind)) (under (x ∷ []) (externalized (p + 1) a))
     (cond (eqb (x .kind) kind.arraylike) (under (layer kind.endlessArray 0 0 ∷ []) (externalized (p + 1) a))
-    (refused 6 p)))
+    (refused refusal.notInExtern p)))
 
 -- "The type handed to externalizing must be well formed, else 4."
 unfoldable pub externalize : ℕ → List Layer → Answer (List Layer)
-externalize p a = cond (wellFormed a) (externalized p a) (refused 4 0)
+externalize p a = cond (wellFormed a) (externalized p a) (refused refusal.illFormed 0)
 
 -- "Extern: Arraylike of e becomes View of EndlessArray of e externalized; anything else is externalized."
 unfoldable pub fixedExtern : List Layer → Answer (List Layer)
@@ -53,5 +55,5 @@ fixedExtern a =
 -- "5 bad context"
 unfoldable pub fixed : Bool → ℕ → List Layer → Answer (List Layer)
 fixed external context a =
-    cond (ltb member context) (refused 5 0)
+    cond (ltb of-context.member context) (refused refusal.badRequest 0)
     (cond external (fixedExtern a) (given (fixedPlain context a)))

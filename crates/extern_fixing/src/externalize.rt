@@ -4,6 +4,8 @@ use type_layers::Checked;
 use type_layers::inner;
 use type_layers::outer;
 use type_numbers::Kind;
+use type_numbers::Limit;
+use type_numbers::Refusal;
 use type_wellformed::is_wellformed;
 use write_type::write_type;
 use write_words::write_words;
@@ -59,7 +61,10 @@ fn externalize_type(t: &[u64], place: u64, made: &mut [u64]) -> Checked
     ensures buffer { λ _. ⌜ now (made .exit) ≡ over (fixing.externalized place (layers (now (t .entry)))) (now (made .entry)) ⌝ }
 {
     if t.len() < 3 {
-        return Checked::Refused { number: 6, place };
+        return Checked::Refused {
+            number: Refusal::NOT_IN_EXTERN,
+            place,
+        };
     }
     let k = t[0];
     if is_kept(k) {
@@ -67,7 +72,10 @@ fn externalize_type(t: &[u64], place: u64, made: &mut [u64]) -> Checked
         return Checked::Good(t.len() as u64);
     }
     if !goes_inside(k) {
-        return Checked::Refused { number: 6, place };
+        return Checked::Refused {
+            number: Refusal::NOT_IN_EXTERN,
+            place,
+        };
     }
     let layer = external_layer(k, t[1], t[2]);
     match externalize_type(&t[3..], place + 1, &mut made[3..]) {
@@ -87,11 +95,11 @@ fn externalize_part(front: &[u64], t: &[u64], place: u64, out: &mut [u64]) -> Ch
 {
     if !is_wellformed(t) {
         return Checked::Refused {
-            number: 4,
+            number: Refusal::ILL_FORMED,
             place: 0,
         };
     }
-    let mut made = [0u64; 48];
+    let mut made = [0u64; Limit::TYPE_WORDS];
     let n = t.len();
     match externalize_type(t, place, &mut made) {
         Checked::Refused { number, place } => Checked::Refused { number, place },

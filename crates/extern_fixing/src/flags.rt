@@ -2,6 +2,8 @@ use crate::externalize::fix_external;
 use extern_plain::fix_plain;
 use type_first_refusal::check_type;
 use type_layers::Checked;
+use type_numbers::Context;
+use type_numbers::Refusal;
 ghost use mathlib.Core.Path.{_≡_};
 ghost use Rattle.type_layers.specs.Layers.{layers, Whole};
 ghost use Rattle.type_layers.specs.Answer.{ofChecked};
@@ -9,17 +11,14 @@ ghost use Rattle.extern_fixing.specs.Fixing as fixing;
 ghost use Rattle.write_type.specs.Outcome.{answerIn, bufferIn};
 ghost use Rattle.extern_fixing.specs.Answers.{fixedAnswer, fixedBuffer};
 
-// The last of the contexts, in the order of the rules and not of the Rust's enum.
-const MEMBER: u64 = 3;
-
 fn fix_checked(t: &[u64], external: bool, context: u64, out: &mut [u64]) -> Checked
     requires { ⌜ Whole (now t) ⌝ }
     ensures answer { λ r. ⌜ ofChecked r ≡ answerIn (now (out .entry)) (fixing.fixed external context (layers (now (t .entry)))) ⌝ }
     ensures buffer { λ _. ⌜ now (out .exit) ≡ bufferIn (now (out .entry)) (fixing.fixed external context (layers (now (t .entry)))) ⌝ }
 {
-    if context > MEMBER {
+    if context > Context::MEMBER {
         return Checked::Refused {
-            number: 5,
+            number: Refusal::BAD_REQUEST,
             place: 0,
         };
     }

@@ -2,6 +2,7 @@ use type_builders::Layer;
 use type_layers::Checked;
 use type_layers::inner;
 use type_layers::outer;
+use type_numbers::Context;
 use type_numbers::Kind;
 use write_type::write_type;
 ghost use mathlib.Core.Path.{_≡_};
@@ -11,16 +12,12 @@ ghost use Rattle.type_layers.specs.Layers.{layers};
 ghost use Rattle.type_layers.specs.Answer.{given, ofChecked};
 ghost use Rattle.write_type.specs.Outcome.{answerIn, bufferIn};
 ghost use Rattle.extern_plain.specs.Fixed as fixed;
-
-// The contexts that a type can stand in, in the order of the rules and not of the Rust's enum.
-const PARAMETER: u64 = 1;
-
-const RETURNED: u64 = 2;
+ghost use Rattle.type_numbers.specs.Context as of-context;
 
 fn is_viewed(context: u64) -> bool
-    ensures { λ r. ⌜ r ≡ eqb context fixed.parameter || eqb context fixed.returned ⌝ }
+    ensures { λ r. ⌜ r ≡ eqb context of-context.parameter || eqb context of-context.returned ⌝ }
 {
-    (context == PARAMETER) | (context == RETURNED)
+    (context == Context::PARAMETER) | (context == Context::RETURNED)
 }
 
 // A type that is not extern.

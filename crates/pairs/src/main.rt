@@ -1,20 +1,22 @@
+use sheet_pairs::pairs_text;
+use type_numbers::Limit;
+
 // Reads a sheet from standard input and prints how each ordered pair of its types stands to one another. All that it prints is
 // made by `sheet_pairs::pairs_text`; here bytes are only moved.
-use sheet_pairs::pairs_text;
 ghost use mathlib.Core.Path.{_≡_};
 ghost use lib.ListN.{length};
 
 // Room for one byte more than the longest sheet has: longer input is then refused.
-fn buffer() -> [u8; 12553]
+fn buffer() -> [u8; Limit::SHEET_BYTES + 1]
     ensures { λ r. ⌜ 12553 ≡ length r ⌝ }
 {
-    [0; 12553]
+    [0; Limit::SHEET_BYTES + 1]
 }
 
 fn main() {
     let mut sheet = buffer();
     let n = io::read_full(0, &mut sheet);
-    let mut text = [0; 18494];
+    let mut text = [0; Limit::PAIRS_BYTES];
     let size = pairs_text(&sheet[..n], &mut text);
     io::write_all(1, &text[..size]);
 }

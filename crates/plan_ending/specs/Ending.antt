@@ -3,7 +3,7 @@ use mathlib.Core.Bool.{Bool, true, false}
 use mathlib.Core.List.{List}
 use Prim.Native.Nat.{ℕ, _-_}
 use Rattle.type_parts.specs.Parts.{fullyDereferenced}
-use Rattle.plan_steps.specs.StepKind as of-step
+use Rattle.type_numbers.specs.StepKind as of-step
 use Rattle.plan_settling.specs.declared.settling.Settling.{Settling}
 use Rattle.plan_settling.specs.declared.settling.Settling.the-variants as settling
 use Rattle.plan_ending.specs.declared.ending.Ending.{Ending}

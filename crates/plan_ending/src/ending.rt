@@ -1,5 +1,5 @@
 use plan_settling::Settling;
-use plan_steps::StepKind;
+use type_numbers::StepKind;
 use type_parts::fully_dereferenced;
 ghost use mathlib.Core.Path.{_≡_};
 ghost use Rattle.plan_ending.specs.Ending as ending;

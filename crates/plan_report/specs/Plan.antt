@@ -4,6 +4,8 @@ use mathlib.Core.List.{List, _++_}
 use Prim.Native.Nat.{ℕ}
 use lib.Dec.{ltb}
 use lib.ListN.{length, replicate}
+use Rattle.type_numbers.specs.Limit as limit
+use Rattle.type_numbers.specs.Refusal as refusal
 use Rattle.type_layers.specs.Layers.{Layer, layers}
 use Rattle.type_layers.specs.Answer.{Answer, given, refused}
 use Rattle.plan_steps.specs.Steps.{Step, steps}
@@ -19,7 +21,7 @@ pub record Plan : Type 0 where
 
 -- "15 result over 16 layers"
 abbrev pub narrow : Plan → Answer Plan
-narrow p = cond (ltb 16 (length (p .type))) (refused 15 0) (given p)
+narrow p = cond (ltb limit.layers (length (p .type))) (refused refusal.tooManyLayers 0) (given p)
 
 -- The plan of the steps that stand in words, and of the body under its Pointers.
 unfoldable pub planned : List ℕ → ℕ → Ending → List ℕ → Answer Plan

@@ -4,6 +4,7 @@ use mathlib.Core.List.{List}
 use Prim.Native.Nat.{ℕ, _*_}
 use lib.Dec.{ltb}
 use lib.ListN.{length, take}
+use Rattle.type_numbers.specs.Refusal as refusal
 use Rattle.type_layers.specs.Layers.{layers, spelled}
 use Rattle.type_layers.specs.Answer.{Answer, given, nothing, refused}
 use Rattle.write_words.specs.Written.{written}
@@ -14,7 +15,7 @@ use Rattle.plan_report.specs.Plan.{Plan}
 -- "14 output too short for this result"
 unfoldable pub delivered : ℕ → ℕ → Answer Plan → Answer Plan
 delivered steps type (given p) =
-    cond (ltb steps (length (stepWords (p .steps))) || ltb type (length (spelled (p .type)))) (refused 14 0) (given p)
+    cond (ltb steps (length (stepWords (p .steps))) || ltb type (length (spelled (p .type)))) (refused refusal.outputTooShort 0) (given p)
 delivered steps type nothing = nothing
 delivered steps type (refused n q) = refused n q
 

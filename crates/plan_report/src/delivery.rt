@@ -1,6 +1,8 @@
 use crate::pointers::pointers;
 use crate::report::Report;
 use plan_ending::Ending;
+use type_numbers::Limit;
+use type_numbers::Refusal;
 use write_words::write_words;
 ghost use mathlib.Core.Path.{_≡_};
 ghost use Prim.Native.Nat.{_*_, _≤_};
@@ -10,8 +12,6 @@ ghost use Rattle.plan_report.specs.Report as report;
 ghost use Rattle.plan_report.specs.Plan.{planned};
 
 // The most words that a type has.
-const MOST: usize = 48;
-
 pub fn refuse(number: u64, place: u64) -> Report
     ensures { λ r. ⌜ r ≡ report.notGiven number place ⌝ }
 {
@@ -43,12 +43,12 @@ pub fn deliver(
 {
     let lead = 3 * e.lead as usize;
     let words = lead + body.len();
-    if words > MOST {
-        return refuse(15, 0);
+    if words > Limit::TYPE_WORDS {
+        return refuse(Refusal::TOO_MANY_LAYERS, 0);
     }
     let most = 4 * m;
     if (steps.len() < most) | (ty.len() < words) {
-        return refuse(14, 0);
+        return refuse(Refusal::OUTPUT_TOO_SHORT, 0);
     }
     let front = pointers();
     write_words(steps, &buf[..most]);

@@ -6,7 +6,8 @@ use Prim.Native.Nat.{ℕ, _+_, _*_, _≤_}
 use native.Mathlib.Omega.{arith}
 use native.Mathlib.Nat.{add-zero}
 use lib.ListN.{length}
-use Rattle.plan_steps.specs.StepKind as of-step
+use Rattle.type_numbers.specs.StepKind as of-step
+use Rattle.type_numbers.specs.Mark as of-mark
 use Rattle.plan_steps.specs.Steps.{Step, step, stepWords, putStep}
 use Rattle.plan_steps.proofs.Words.{words-append, put-length}
 use Rattle.plan_turn.specs.Turn.{ofTurn}
@@ -37,12 +38,12 @@ module _ (b : List ℕ) (n : ℕ) (a : Step) (t : Turn) (room : 4 * n + 8 ≤ le
       rw e (one b b′ n a (omega arith) (f ∙ ap (λ (z : Step). putStep z (4 * n) b) whole))
 
   pub sliced : (b₁ b₂ : List ℕ) (h m : ℕ) → t ≡ Desliced m → h ≡ a .handle → b₁ ≡ putStep (step of-step.autodeslice 0 m 0) (4 * n) b →
-      b₂ ≡ putStep (step of-step.element h of-step.no 0) (4 * n + 4) b₁ → Pushed b n b₂ (n + 2) (stepsOf a (ofTurn t))
+      b₂ ≡ putStep (step of-step.element h of-mark.no 0) (4 * n + 4) b₁ → Pushed b n b₂ (n + 2) (stepsOf a (ofTurn t))
   unfolding ofTurn
   sliced b₁ b₂ h m e g f₁ f₂ =
       let i : 4 * n + 4 ≡ 4 * (n + 1) = omega arith in
       let wide : 4 * (n + 1) + 4 ≤ length b₁ = rw (f₁, put-length) (omega arith) in
       let p = one b b₁ n (step of-step.autodeslice 0 m 0) (omega arith) f₁ in
-      let q = one b₁ b₂ (n + 1) (step of-step.element h of-step.no 0) wide (rw i at f₂) in
+      let q = one b₁ b₂ (n + 1) (step of-step.element h of-mark.no 0) wide (rw i at f₂) in
       let j : n + 2 ≡ n + 1 + 1 = omega arith in
-      rw (e, ← g) (refl, rw j (q .1 ∙ rw (p .1, append-assoc, ← words-append (step of-step.autodeslice 0 m 0 ∷ []) (step of-step.element h of-step.no 0 ∷ [])) refl))
+      rw (e, ← g) (refl, rw j (q .1 ∙ rw (p .1, append-assoc, ← words-append (step of-step.autodeslice 0 m 0 ∷ []) (step of-step.element h of-mark.no 0 ∷ [])) refl))

@@ -3,10 +3,12 @@ use mathlib.Core.Bool.{cond}
 use mathlib.Core.List.{List, [], _∷_, _++_}
 use Prim.Native.Nat.{ℕ, zero, suc, _+_}
 use lib.ListN.{drop}
+use Rattle.type_numbers.specs.Refusal as refusal
 use Rattle.type_layers.specs.Layers.{Layer, outer, inside}
 use Rattle.type_layers.specs.Answer.{Answer, given, nothing, refused}
 use Rattle.type_wellformed.specs.Formed.{wellFormed}
-use Rattle.plan_steps.specs.StepKind as of-step
+use Rattle.type_numbers.specs.StepKind as of-step
+use Rattle.type_numbers.specs.Mark as of-mark
 use Rattle.plan_steps.specs.Steps.{Step, step}
 use Rattle.plan_turn.specs.Turn.{Turn, Stuck, Auto, Element, Desliced, Member}
 use Rattle.plan_turn.specs.Turns.{turn}
@@ -22,7 +24,7 @@ abbrev pub stepsOf : Step → Turn → List Step
 stepsOf a Stuck = []
 stepsOf a (Auto k) = step k 0 0 0 ∷ []
 stepsOf a (Element m l) = step of-step.element (a .handle) m 0 ∷ []
-stepsOf a (Desliced m) = step of-step.autodeslice 0 m 0 ∷ step of-step.element (a .handle) of-step.no 0 ∷ []
+stepsOf a (Desliced m) = step of-step.autodeslice 0 m 0 ∷ step of-step.element (a .handle) of-mark.no 0 ∷ []
 stepsOf a Member = a ∷ []
 
 abbrev pub takenBy : Turn → ℕ
@@ -34,8 +36,8 @@ takenBy Member = 1
 
 -- "11 member absent or poisoned"; "4 for a member's type"
 abbrev pub memberType : Stored → Answer (List Layer)
-memberType absent = refused 11 0
-memberType (typed t) = cond (wellFormed t) (given t) (refused 4 0)
+memberType absent = refused refusal.noMember 0
+memberType (typed t) = cond (wellFormed t) (given t) (refused refusal.illFormed 0)
 
 -- What a round decides of the current type and the first asked step.
 abbrev pub turnAt : List Layer → Step → Turn
@@ -44,7 +46,7 @@ turnAt t a = turn (outer t) (outer (inside t)) (a .kind) (a .mark)
 module _ (stored : ℕ → Stored) where
   -- Where a round goes on.
   abbrev pub goes : List Layer → Step → Turn → Answer (List Layer)
-  goes t a Stuck = refused 8 0
+  goes t a Stuck = refused refusal.noStepFits 0
   goes t a (Auto k) = given (inside t)
   goes t a (Element m l) = given (drop l t)
   goes t a (Desliced m) = given (inside t)
@@ -56,7 +58,7 @@ module _ (stored : ℕ → Stored) where
 
   abbrev pub onward : List Step → ℕ → Answer (List Layer) → (List Layer → Rounds) → Rounds
   onward ss k (given u) f = prepend ss k (f u)
-  onward ss k nothing f = stopped 8
+  onward ss k nothing f = stopped refusal.noStepFits
   onward ss k (refused n p) f = stopped n
 
   -- "Rounds used up: remaining asked steps are dropped and the count taken is reported."

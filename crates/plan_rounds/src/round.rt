@@ -1,10 +1,12 @@
-use plan_steps::StepKind;
 use plan_steps::four;
 use plan_turn::Turn;
 use plan_turn::turn_of;
+use symbol_columns::Columns;
 use symbol_members::member;
 use type_layers::inner;
 use type_layers::outer;
+use type_numbers::Mark;
+use type_numbers::StepKind;
 ghost use mathlib.Core.Path.{_≡_};
 ghost use mathlib.Core.List.{_++_};
 ghost use Prim.Native.Nat.{_+_, _*_, _≤_};
@@ -33,7 +35,7 @@ pub(crate) fn turn_at(cur: &[u64], q: &[u64]) -> Turn
 
 // The words where a round goes on: a part of the current type's, or of the store.
 pub(crate) fn onto<'a>(
-    flat: &[u64; 768],
+    flat: &Columns,
     n: usize,
     store: &'a [u64],
     cur: &'a [u64],
@@ -90,7 +92,7 @@ pub(crate) fn push(buf: &mut [u64], n: usize, q: &[u64], t: Turn) -> usize
         }
         Turn::Desliced(mark) => {
             four(buf, at, StepKind::AUTODESLICE, 0, mark, 0);
-            four(buf, at + 4, StepKind::ELEMENT, handle, 1, 0);
+            four(buf, at + 4, StepKind::ELEMENT, handle, Mark::NO, 0);
             n + 2
         }
         Turn::Member => {

@@ -6,6 +6,9 @@ use crate::round::turn_at;
 use plan_report::Report;
 use plan_report::refuse;
 use plan_turn::Turn;
+use symbol_columns::Columns;
+use type_numbers::Limit;
+use type_numbers::Refusal;
 use type_wellformed::is_wellformed;
 ghost use mathlib.Core.Path.{_≡_};
 ghost use Prim.Native.Nat.{_≤_, _*_};
@@ -31,7 +34,7 @@ fn after(q: &[u64], k: usize) -> &[u64]
 // Goes from the known type along the asked steps, at most so many rounds, left as soon as no asked step is left; then
 // settles. The run has room for all the steps: 64 rounds add at most two each, and the settling at most 16.
 pub fn plan_in_rounds<'a>(
-    flat: &[u64; 768],
+    flat: &Columns,
     count: usize,
     store: &'a [u64],
     known: &'a [u64],
@@ -48,7 +51,7 @@ pub fn plan_in_rounds<'a>(
     ensures written { λ _. ⌜ now (steps .exit) ≡ report.stepsOver (planInRounds (memberIn (now (flat .entry)) count (now (store .entry))) (now (known .entry)) (now (asked .entry)) (now (target .entry)) level rounds (length (now (steps .entry))) (length (now (ty .entry)))) (now (steps .entry)) ⌝ }
     ensures reported { λ _. ⌜ now (ty .exit) ≡ report.typeOver (planInRounds (memberIn (now (flat .entry)) count (now (store .entry))) (now (known .entry)) (now (asked .entry)) (now (target .entry)) level rounds (length (now (steps .entry))) (length (now (ty .entry)))) (now (ty .entry)) ⌝ }
 {
-    let mut buf = [0u64; 576];
+    let mut buf = [0u64; Limit::PLAN_WORDS];
     let mut cur = known;
     let mut rest = asked;
     let mut i = 0;
@@ -63,17 +66,17 @@ pub fn plan_in_rounds<'a>(
         let next = onto(flat, count, store, cur, rest, t);
         match t {
             Turn::Stuck => {
-                return refuse(8, 0);
+                return refuse(Refusal::NO_STEP_FITS, 0);
             }
             Turn::Auto(_) => {}
             Turn::Element { mark: _, layers: _ } => {}
             Turn::Desliced(_) => {}
             Turn::Member => {
                 if next.len() < 3 {
-                    return refuse(11, 0);
+                    return refuse(Refusal::NO_MEMBER, 0);
                 }
                 if !is_wellformed(next) {
-                    return refuse(4, 0);
+                    return refuse(Refusal::ILL_FORMED, 0);
                 }
             }
         }

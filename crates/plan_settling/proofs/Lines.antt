@@ -14,7 +14,7 @@ use Rattle.type_size_and_depth.specs.Depth.{pointerDepth}
 use Rattle.relation_equals.specs.Equalities.{identical}
 use Rattle.relation_coerces.specs.Coercions.{coerces, addressCoerces}
 use Rattle.type_layers.proofs.Decide.{both}
-use Rattle.plan_steps.specs.StepKind as of-step
+use Rattle.type_numbers.specs.StepKind as of-step
 use Rattle.plan_steps.specs.Steps.{step}
 use Rattle.plan_settling.specs.Line as line
 use Rattle.plan_settling.specs.Line.{Line}

@@ -5,6 +5,7 @@ use mathlib.Core.List.{List, [], _∷_, _++_}
 use Prim.Native.Nat.{ℕ, _+_, _-_}
 use lib.Dec.{eqb, ltb, leb}
 use lib.ListN.{drop, replicate}
+use Rattle.type_numbers.specs.Refusal as refusal
 use Rattle.type_numbers.specs.Kind as kind
 use Rattle.type_layers.specs.Layers.{Layer, layer, outer, inside}
 use Rattle.type_layers.specs.Answer.{Answer, given, refused}
@@ -12,7 +13,7 @@ use Rattle.type_parts.specs.Parts.{references}
 use Rattle.type_size_and_depth.specs.Depth.{pointerDepth}
 use Rattle.relation_equals.specs.Equalities.{identical}
 use Rattle.relation_coerces.specs.Coercions.{coerces, addressCoerces}
-use Rattle.plan_steps.specs.StepKind as of-step
+use Rattle.type_numbers.specs.StepKind as of-step
 use Rattle.plan_steps.specs.Steps.{Step, step}
 use Rattle.plan_settling.specs.Line as line
 use Rattle.plan_settling.specs.Line.{Line}
@@ -48,9 +49,9 @@ dereferenced c n p =
 -- "(vii) p = depth of c: n≥p+2: 9; n=p+1: address; c a SlicePointer: 10; else ..."
 unfoldable pub settleOtherwise : List Layer → ℕ → ℕ → Answer Settled
 settleOtherwise c n p =
-    cond (leb (p + 2) n) (refused 9 0)
+    cond (leb (p + 2) n) (refused refusal.addressOfAddress 0)
     (cond (eqb n (p + 1)) (given (byAddress c false))
-    (cond (eqb (outer c) kind.slicePointer) (refused 10 0)
+    (cond (eqb (outer c) kind.slicePointer) (refused refusal.slicePointerUnsettled 0)
     (given (dereferenced c n p))))
 
 -- Which line applies: the first of them.

@@ -4,6 +4,7 @@ use relation_equals::identical;
 use type_layers::inner;
 use type_layers::outer;
 use type_numbers::Kind;
+use type_numbers::Refusal;
 use type_size_and_depth::depth;
 ghost use mathlib.Core.Path.{_≡_};
 ghost use Rattle.type_layers.specs.Layers.{layers};
@@ -38,12 +39,12 @@ fn settle_otherwise(c: &[u64], n: u64) -> Settling
     let p = depth(c);
     if n > p {
         if n - p >= 2 {
-            return Settling::Refused(9);
+            return Settling::Refused(Refusal::ADDRESS_OF_ADDRESS);
         }
         return Settling::Addressed;
     }
     if outer(c) == Kind::SLICE_POINTER {
-        return Settling::Refused(10);
+        return Settling::Refused(Refusal::SLICE_POINTER_UNSETTLED);
     }
     Settling::Dereferenced
 }

@@ -4,8 +4,11 @@ use mathlib.Core.List.{List, [], _∷_, _++_}
 use Prim.Native.Nat.{ℕ, _+_, _/_, _%_, _-_, _^_}
 use lib.Dec.{eqb, leb}
 use lib.ListN.{length, take, drop}
+use Rattle.type_numbers.specs.Limit as limit
+use Rattle.type_numbers.specs.Mark as of-mark
+use Rattle.type_numbers.specs.Refusal as refusal
 use Rattle.type_layers.specs.Answer.{Answer, given, refused}
-use Rattle.plan_steps.specs.StepKind as kind
+use Rattle.type_numbers.specs.StepKind as kind
 
 -- "A step is four words: kind, handle, mark, number."
 pub record Step : Type 0 where
@@ -34,16 +37,16 @@ putStep s at b = cond (leb (at + 4) (length b)) (take at b ++ stepWords (s ∷ [
 
 -- "handles u32"
 abbrev pub isHandle : ℕ → Bool
-isHandle h = leb h (2 ^ 32 - 1)
+isHandle h = leb h limit.name
 
 -- "Element 0 (argument; endless unknown 0, no 1, yes 2), Member 1 (id; offset present 0/1; offset, 0 when absent),
 -- Autodeslice 2 (mark 0 by view, 1 by pointer, 2 length), Autoderef 3, Autoview 4; unused words 0"
 unfoldable pub goodStep : Step → Bool
 goodStep s =
-    cond (eqb (s .kind) kind.element) (isHandle (s .handle) && leb (s .mark) 2 && eqb (s .number) 0)
-    (cond (eqb (s .kind) kind.member) (isHandle (s .handle) && leb (s .mark) 1 && (eqb (s .mark) 1 || eqb (s .number) 0))
-    (cond (eqb (s .kind) kind.autodeslice) (eqb (s .handle) 0 && leb (s .mark) 2 && eqb (s .number) 0)
-    (leb (s .kind) 4 && eqb (s .handle) 0 && eqb (s .mark) 0 && eqb (s .number) 0)))
+    cond (eqb (s .kind) kind.element) (isHandle (s .handle) && leb (s .mark) of-mark.yes && eqb (s .number) 0)
+    (cond (eqb (s .kind) kind.member) (isHandle (s .handle) && leb (s .mark) of-mark.offset && (eqb (s .mark) of-mark.offset || eqb (s .number) 0))
+    (cond (eqb (s .kind) kind.autodeslice) (eqb (s .handle) 0 && leb (s .mark) of-mark.byLength && eqb (s .number) 0)
+    (leb (s .kind) kind.autoview && eqb (s .handle) 0 && eqb (s .mark) 0 && eqb (s .number) 0)))
 
 unfoldable pub goodSteps : List Step → Bool
 goodSteps [] = true
@@ -52,4 +55,4 @@ goodSteps (s ∷ ss) = goodStep s && goodSteps ss
 -- "5 bad ... step, step count": of at most so many steps, how many they are.
 unfoldable pub stepsAnswer : ℕ → List ℕ → Answer ℕ
 stepsAnswer most ws =
-    cond (eqb (length ws % 4) 0 && leb (length ws / 4) most && goodSteps (steps ws)) (given (length ws / 4)) (refused 5 0)
+    cond (eqb (length ws % 4) 0 && leb (length ws / 4) most && goodSteps (steps ws)) (given (length ws / 4)) (refused refusal.badRequest 0)

@@ -9,7 +9,8 @@ use borrow.Author.Tests.{eqb-true}
 use Rattle.type_numbers.specs.Kind as kind
 use Rattle.type_layers.specs.Layers.{isArray, isReference}
 use Rattle.type_layers.proofs.Decide.{both}
-use Rattle.plan_steps.specs.StepKind as of-step
+use Rattle.type_numbers.specs.StepKind as of-step
+use Rattle.type_numbers.specs.Mark as of-mark
 use Rattle.plan_turn.specs.Turn.{Turn, Stuck, Auto, Element, Desliced, Member}
 use Rattle.plan_turn.specs.Turns.{auto, onReference, onElement, onMember, turn}
 
@@ -31,8 +32,8 @@ module _ (k l asked mark : ℕ) (P : Turn → Type 0)
     (autoview : k ≡ kind.view → P (Auto of-step.autoview))
     (through : isArray k ≡ false → isReference k ≡ true → l ≡ kind.arraylike → asked ≡ of-step.element → P (Element mark 2))
     (element : (m : ℕ) → leb m 2 ≡ true → isArray k ≡ true → asked ≡ of-step.element → P (Element m 1))
-    (slice : k ≡ kind.slice → asked ≡ of-step.element → P (Desliced of-step.byView))
-    (slice-pointer : k ≡ kind.slicePointer → asked ≡ of-step.element → P (Desliced of-step.byPointer))
+    (slice : k ≡ kind.slice → asked ≡ of-step.element → P (Desliced of-mark.byView))
+    (slice-pointer : k ≡ kind.slicePointer → asked ≡ of-step.element → P (Desliced of-mark.byPointer))
     (member : (eqb k kind.struct || eqb k kind.word) ≡ true → asked ≡ of-step.member → P Member) where
   on-reference : isReference k ≡ true → P (onReference k l asked mark)
   on-reference e = by-inside (eqb asked of-step.element && eqb l kind.arraylike) refl
@@ -43,25 +44,25 @@ module _ (k l asked mark : ℕ) (P : Turn → Type 0)
           ⊎-elim (λ (p : k ≡ kind.pointer). rw p (autoderef p)) (λ (p : k ≡ kind.view). rw p (autoview p)) (either k kind.pointer kind.view e)
 
   module _ (e : asked ≡ of-step.element) where
-    by-slice-pointer : (f : Bool) → eqb k kind.slicePointer ≡ f → P (cond f (Desliced of-step.byPointer) Stuck)
+    by-slice-pointer : (f : Bool) → eqb k kind.slicePointer ≡ f → P (cond f (Desliced of-mark.byPointer) Stuck)
     by-slice-pointer true f = slice-pointer (eqb-true _ _ f) e
     by-slice-pointer false f = stuck
 
-    by-slice : (f : Bool) → eqb k kind.slice ≡ f → P (cond f (Desliced of-step.byView) (cond (eqb k kind.slicePointer) (Desliced of-step.byPointer) Stuck))
+    by-slice : (f : Bool) → eqb k kind.slice ≡ f → P (cond f (Desliced of-mark.byView) (cond (eqb k kind.slicePointer) (Desliced of-mark.byPointer) Stuck))
     by-slice true f = slice (eqb-true _ _ f) e
     by-slice false f = by-slice-pointer (eqb k kind.slicePointer) refl
 
     by-endless : (f : Bool) → (eqb k kind.endlessArray || eqb k kind.arraylike) ≡ f →
-        P (cond f (Element of-step.yes 1) (cond (eqb k kind.slice) (Desliced of-step.byView) (cond (eqb k kind.slicePointer) (Desliced of-step.byPointer) Stuck)))
-    by-endless true f = element of-step.yes refl (tells isArray true k kind.endlessArray kind.arraylike refl refl f) e
+        P (cond f (Element of-mark.yes 1) (cond (eqb k kind.slice) (Desliced of-mark.byView) (cond (eqb k kind.slicePointer) (Desliced of-mark.byPointer) Stuck)))
+    by-endless true f = element of-mark.yes refl (tells isArray true k kind.endlessArray kind.arraylike refl refl f) e
     by-endless false f = by-slice (eqb k kind.slice) refl
 
     by-length : (f : Bool) → (eqb k kind.array || eqb k kind.arrayWithNamedLength) ≡ f →
         P
-        (cond f (Element of-step.no 1)
-        (cond (eqb k kind.endlessArray || eqb k kind.arraylike) (Element of-step.yes 1)
-        (cond (eqb k kind.slice) (Desliced of-step.byView) (cond (eqb k kind.slicePointer) (Desliced of-step.byPointer) Stuck))))
-    by-length true f = element of-step.no refl (tells isArray true k kind.array kind.arrayWithNamedLength refl refl f) e
+        (cond f (Element of-mark.no 1)
+        (cond (eqb k kind.endlessArray || eqb k kind.arraylike) (Element of-mark.yes 1)
+        (cond (eqb k kind.slice) (Desliced of-mark.byView) (cond (eqb k kind.slicePointer) (Desliced of-mark.byPointer) Stuck))))
+    by-length true f = element of-mark.no refl (tells isArray true k kind.array kind.arrayWithNamedLength refl refl f) e
     by-length false f = by-endless (eqb k kind.endlessArray || eqb k kind.arraylike) refl
 
   by-member : (f g : Bool) → eqb asked of-step.member ≡ f → (eqb k kind.struct || eqb k kind.word) ≡ g → P (cond f (cond g Member Stuck) Stuck)

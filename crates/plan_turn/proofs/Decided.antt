@@ -6,7 +6,7 @@ use Prim.Native.Nat.{ℕ}
 use borrow.Author.Tests.{eq-eqb, ne-eqb}
 use Rattle.type_layers.specs.Layers.{isReference}
 use Rattle.type_layers.proofs.Decide.{yes, no}
-use Rattle.plan_steps.specs.StepKind as of-step
+use Rattle.type_numbers.specs.StepKind as of-step
 use Rattle.plan_turn.specs.Turns.{auto, onReference, onElement, onMember, turn}
 use Rattle.plan_turn.specs.Turn.{Turn, Stuck, Auto}
 

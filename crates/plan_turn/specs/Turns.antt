@@ -4,7 +4,8 @@ use Prim.Native.Nat.{ℕ}
 use lib.Dec.{eqb}
 use Rattle.type_numbers.specs.Kind as kind
 use Rattle.type_layers.specs.Layers.{isReference}
-use Rattle.plan_steps.specs.StepKind as of-step
+use Rattle.type_numbers.specs.StepKind as of-step
+use Rattle.type_numbers.specs.Mark as of-mark
 use Rattle.plan_turn.specs.Turn.{Turn, Stuck, Auto, Element, Desliced, Member}
 
 -- "Any other Pointer: Autoderef; View: Autoview"
@@ -21,10 +22,10 @@ onReference k l asked mark =
 -- Element marked no." "Else 8."
 abbrev pub onElement : ℕ → Turn
 onElement k =
-    cond (eqb k kind.array || eqb k kind.arrayWithNamedLength) (Element of-step.no 1)
-    (cond (eqb k kind.endlessArray || eqb k kind.arraylike) (Element of-step.yes 1)
-    (cond (eqb k kind.slice) (Desliced of-step.byView)
-    (cond (eqb k kind.slicePointer) (Desliced of-step.byPointer)
+    cond (eqb k kind.array || eqb k kind.arrayWithNamedLength) (Element of-mark.no 1)
+    (cond (eqb k kind.endlessArray || eqb k kind.arraylike) (Element of-mark.yes 1)
+    (cond (eqb k kind.slice) (Desliced of-mark.byView)
+    (cond (eqb k kind.slicePointer) (Desliced of-mark.byPointer)
     Stuck)))
 
 -- "Member on Struct or Word: the table's type. Else 8."

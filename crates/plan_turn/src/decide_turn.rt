@@ -1,19 +1,10 @@
 use crate::turn::Turn;
-use plan_steps::StepKind;
 use type_numbers::Kind;
+use type_numbers::Mark;
+use type_numbers::StepKind;
 ghost use mathlib.Core.Path.{_≡_};
 ghost use Rattle.plan_turn.specs.Turn.{ofTurn};
 ghost use Rattle.plan_turn.specs.Turns as rules;
-
-// The marks of an Element.
-const NO: u64 = 1;
-
-const YES: u64 = 2;
-
-// The marks of an Autodeslice.
-const BY_VIEW: u64 = 0;
-
-const BY_POINTER: u64 = 1;
 
 // On a Pointer or a View, of the kind inside.
 fn on_reference(k: u64, l: u64, asked: u64, mark: u64) -> Turn
@@ -35,21 +26,21 @@ fn on_element(k: u64) -> Turn
 {
     if (k == Kind::ARRAY) | (k == Kind::ARRAY_WITH_NAMED_LENGTH) {
         return Turn::Element {
-            mark: NO,
+            mark: Mark::NO,
             layers: 1,
         };
     }
     if (k == Kind::ENDLESS_ARRAY) | (k == Kind::ARRAYLIKE) {
         return Turn::Element {
-            mark: YES,
+            mark: Mark::YES,
             layers: 1,
         };
     }
     if k == Kind::SLICE {
-        return Turn::Desliced(BY_VIEW);
+        return Turn::Desliced(Mark::BY_VIEW);
     }
     if k == Kind::SLICE_POINTER {
-        return Turn::Desliced(BY_POINTER);
+        return Turn::Desliced(Mark::BY_POINTER);
     }
     Turn::Stuck
 }

@@ -18,7 +18,8 @@ use Rattle.type_parts.specs.Parts.{references}
 use Rattle.type_size_and_depth.specs.Depth.{pointerDepth}
 use Rattle.relation_equals.specs.Equalities.{identical, plain, equals}
 use Rattle.relation_coerces.specs.Coercions.{coerces, addressCoerces}
-use Rattle.plan_steps.specs.StepKind as of-step
+use Rattle.type_numbers.specs.StepKind as of-step
+use Rattle.type_numbers.specs.Mark as of-mark
 use Rattle.plan_steps.specs.Steps.{Step, step, goodStep, goodSteps}
 use Rattle.plan_settling.specs.Line as line
 use Rattle.plan_settling.specs.Line.{Line}
@@ -47,7 +48,7 @@ abbrev struct1 : Layer
 struct1 = layer kind.struct 1 0
 
 abbrev element : ℕ → ℕ → Step
-element handle number = step of-step.element handle of-step.no number
+element handle number = step of-step.element handle of-mark.no number
 
 abbrev autoderef : Step
 autoderef = step of-step.autoderef 0 0 0

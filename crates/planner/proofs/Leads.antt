@@ -10,7 +10,7 @@ use lib.ListN.{take, drop}
 use Rattle.type_layers.specs.Layers.{Layer, outer, inside}
 use Rattle.type_layers.specs.Answer.{given, refused}
 use Rattle.type_wellformed.specs.Formed.{wellFormed}
-use Rattle.plan_steps.specs.StepKind as of-step
+use Rattle.type_numbers.specs.StepKind as of-step
 use Rattle.plan_steps.specs.Steps.{Step, isHandle, goodStep, goodSteps}
 use Rattle.plan_turn.specs.Turn.{Turn}
 use Rattle.type_layers.proofs.Decide.{both}

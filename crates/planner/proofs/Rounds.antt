@@ -13,7 +13,7 @@ use lib.ListN.{length, take, drop, length-drop, length-append}
 use lib.Seq.{take-add}
 use Rattle.type_layers.specs.Layers.{Layer}
 use Rattle.type_layers.specs.Answer.{Answer, given, nothing, refused}
-use Rattle.plan_steps.specs.StepKind as of-step
+use Rattle.type_numbers.specs.StepKind as of-step
 use Rattle.plan_steps.specs.Steps.{Step, goodStep, goodSteps}
 use Rattle.plan_steps.proofs.Words.{good-append}
 use Rattle.type_layers.proofs.Decide.{both}

@@ -20,7 +20,7 @@ use Rattle.type_size_and_depth.specs.Depth.{pointerDepth}
 use Rattle.type_wellformed.specs.Formed.{inner, wellFormed}
 use Rattle.relation_equals.proofs.Theorems.{identical-equal}
 use Rattle.type_layers.proofs.Decide.{both}
-use Rattle.plan_steps.specs.StepKind as of-step
+use Rattle.type_numbers.specs.StepKind as of-step
 use Rattle.plan_steps.specs.Steps.{Step, step, goodStep, goodSteps}
 use Rattle.plan_settling.specs.Line as line
 use Rattle.plan_settling.specs.Settling.{Settled, settled, pointer, dereferenced, settleOtherwise, lineOf, settleBy, settle}

@@ -14,7 +14,7 @@ use Rattle.type_wellformed.specs.Formed.{inner, element, wellFormed}
 use Rattle.relation_equals.specs.Equalities.{identical, plain, equals}
 use Rattle.relation_coerces.specs.Coercions.{coerces, addressCoerces, viewAutoderefs, autoderefs}
 use Rattle.plan_turn.specs.Turns.{turn}
-use Rattle.plan_steps.specs.StepKind as of-step
+use Rattle.type_numbers.specs.StepKind as of-step
 use Rattle.plan_steps.specs.Steps.{step}
 use Rattle.plan_settling.specs.Settling.{pointer, settleOtherwise, lineOf, settleBy, settle}
 use Rattle.plan_rounds.specs.Rounds.{inRounds}

@@ -13,7 +13,8 @@ use Rattle.type_wellformed.specs.Formed.{inner, element, wellFormed}
 use Rattle.relation_equals.specs.Equalities.{identical, plain, equals}
 use Rattle.relation_declared.specs.Relations.{declared}
 use Rattle.relation_coerces.specs.Coercions.{coerces, addressCoerces}
-use Rattle.plan_steps.specs.StepKind as of-step
+use Rattle.type_numbers.specs.StepKind as of-step
+use Rattle.type_numbers.specs.Mark as of-mark
 use Rattle.plan_steps.specs.Steps.{Step, step}
 use Rattle.plan_turn.specs.Turns.{turn}
 use Rattle.plan_settling.specs.Settling.{settleOtherwise, lineOf, settleBy, settle}
@@ -42,7 +43,7 @@ array3 = layer kind.array 0 3 ∷ int32
 
 -- an Element whose endless mark is unknown
 abbrev pub asked-element : ℕ → Step
-asked-element a = step of-step.element a of-step.unknown 0
+asked-element a = step of-step.element a of-mark.unknown 0
 
 abbrev pub plan : List Step → ℕ → List Layer → Bool → Bool → Answer Plan
 plan ss k t a b = given (record { steps = ss; taken = k; type = t; address = a; coerced = b })
@@ -62,7 +63,7 @@ pub record Table : Type 0 where
   -- "Slice of Char8, Element 7, target Char8: Autodeslice, Element."
   pub slice-of-char8 :
       planned (of kind.slice char8) (asked-element 7 ∷ []) char8 0 64
-      ≡ plan (step of-step.autodeslice 0 of-step.byView 0 ∷ step of-step.element 7 of-step.no 0 ∷ []) 1 char8 false false
+      ≡ plan (step of-step.autodeslice 0 of-mark.byView 0 ∷ step of-step.element 7 of-mark.no 0 ∷ []) 1 char8 false false
   -- "Pointer to Array 3 of Int32, Element, one round, target Int32: Autoderef, none taken, Array reported."
   pub one-round :
       planned (of kind.pointer array3) (asked-element 0 ∷ []) int32 0 1 ≡ plan (step of-step.autoderef 0 0 0 ∷ []) 0 array3 false false

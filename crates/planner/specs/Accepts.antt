@@ -4,6 +4,8 @@ use mathlib.Core.Logic.{_⊎_}
 use mathlib.Core.List.{List}
 use Prim.Native.Nat.{ℕ, _*_, _≤_, _<_}
 use lib.ListN.{take}
+use Rattle.type_numbers.specs.Limit as limit
+use Rattle.type_numbers.specs.Refusal as refusal
 use Rattle.write_answer.specs.declared.answer.Answer.{Answer}
 use Rattle.plan_report.specs.declared.report.Report.{Report}
 
@@ -17,6 +19,6 @@ pub record Accepts (exception : Type 0) (r : Report) (ty : List ℕ) (a : Answer
   -- where there is room for the reported type, the answer is that type, or the exception holds
   pub answers : 3 * r .layers ≤ room → Agrees r ty a out ⊎ exception
   -- no refusal but 14, and that for want of room alone: 48 words are enough
-  pub only : (a .refusal ≡ 0) ⊎ ((a .refusal ≡ 14) × (room < 48))
+  pub only : (a .refusal ≡ 0) ⊎ ((a .refusal ≡ refusal.outputTooShort) × (room < limit.typeWords))
   -- the exception can be seen: where it holds, the comparison fails
   pub shows : exception → Agrees r ty a out → ⊥

@@ -4,6 +4,8 @@ use mathlib.Core.Bool.{cond}
 use mathlib.Core.List.{List}
 use Prim.Native.Nat.{ℕ}
 use lib.Dec.{ltb}
+use Rattle.type_numbers.specs.Limit as limit
+use Rattle.type_numbers.specs.Refusal as refusal
 use Rattle.type_layers.specs.Layers.{layers}
 use Rattle.type_layers.specs.Answer.{Answer, refused, next}
 use Rattle.type_checks.specs.Check.{checkOf}
@@ -17,7 +19,7 @@ use Rattle.plan_report.specs.Report.{delivered}
 
 -- "At most 32 asked steps, 0 to 64 rounds"; "5 bad ... step, step count or rounds"
 abbrev pub limits : List ℕ → ℕ → Answer ℕ
-limits asked rounds = cond (ltb 64 rounds) (refused 5 0) (stepsAnswer 32 asked)
+limits asked rounds = cond (ltb limit.rounds rounds) (refused refusal.badRequest 0) (stepsAnswer limit.asked asked)
 
 abbrev pub question : List ℕ → List ℕ → List ℕ → ℕ → Answer ℕ
 question known asked target rounds = next (checkOf known) (next (checkOf target) (limits asked rounds))
@@ -27,7 +29,7 @@ unfoldable pub planned : List Symbol → List ℕ → List ℕ → List ℕ → 
 planned table store known asked target depth rounds room wide =
     cond (inOrder table store)
     (delivered room wide (planOf (members table store) (layers known) (steps asked) (layers target) depth rounds))
-    (refused 12 0)
+    (refused refusal.tableNotInOrder 0)
 
 unfoldable pub planAnswer : List Symbol → List ℕ → List ℕ → List ℕ → List ℕ → ℕ → ℕ → ℕ → ℕ → Answer Plan
 planAnswer table store known asked target depth rounds room wide =

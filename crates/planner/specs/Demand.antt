@@ -10,7 +10,7 @@ use lib.ListN.{length, take, drop}
 use Rattle.type_numbers.specs.Kind as kind
 use Rattle.type_layers.specs.Layers.{Layer, outer}
 use Rattle.type_parts.specs.Parts.{references}
-use Rattle.plan_steps.specs.StepKind as of-step
+use Rattle.type_numbers.specs.StepKind as of-step
 use Rattle.plan_steps.specs.Steps.{Step, step, goodSteps}
 use Rattle.plan_settling.specs.Line as line
 use Rattle.plan_settling.specs.Settling.{lineOf}

@@ -1,5 +1,6 @@
 use crate::plan_checks::plan_among;
 use plan_report::Report;
+use symbol_columns::Column;
 use symbol_columns::Symbol;
 use symbol_lent::gather;
 ghost use mathlib.Core.Path.{_≡_};
@@ -23,7 +24,7 @@ pub fn autoderef<'a>(
         × (now (steps .exit) ≡ report.stepsOver (answers.planAnswer (now (table .entry)) (now (store .entry)) (now (known .entry)) (now (asked .entry)) (now (target .entry)) level rounds (length (now (steps .entry))) (length (now (ty .entry)))) (now (steps .entry)))
         × (now (ty .exit) ≡ report.typeOver (answers.planAnswer (now (table .entry)) (now (store .entry)) (now (known .entry)) (now (asked .entry)) (now (target .entry)) level rounds (length (now (steps .entry))) (length (now (ty .entry)))) (now (ty .entry))) ⌝ }
 {
-    let mut columns = [0u64; 768];
+    let mut columns = [0u64; Column::WORDS];
     gather(table, &mut columns);
     plan_among(
         &columns,

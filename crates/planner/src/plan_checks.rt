@@ -2,9 +2,12 @@ use plan_report::Report;
 use plan_report::refuse;
 use plan_rounds::plan_in_rounds;
 use plan_steps::check_steps;
+use symbol_columns::Columns;
 use symbol_order::in_order;
 use type_first_refusal::check_type;
 use type_layers::Checked;
+use type_numbers::Limit;
+use type_numbers::Refusal;
 use type_wellformed::is_wellformed;
 ghost use mathlib.Core.Path.{_≡_};
 ghost use Prim.Native.Nat.{_≤_};
@@ -14,22 +17,18 @@ ghost use Rattle.type_layers.specs.Layers.{Whole};
 ghost use Rattle.symbol_columns.specs.Rows.{readFrom};
 ghost use Rattle.plan_report.specs.Report as report;
 ghost use Rattle.planner.specs.Answers as answers;
-
-// The most asked steps, and the most rounds.
-const STEPS: u64 = 32;
-
-const ROUNDS: u64 = 64;
+ghost use Rattle.type_numbers.specs.Limit as limit;
 
 fn check_limits(asked: &[u64], rounds: u64) -> Checked
     ensures { λ r. ⌜ ofChecked r ≡ answers.limits (now (asked .entry)) rounds ⌝ }
 {
-    if rounds > ROUNDS {
+    if rounds > Limit::ROUNDS {
         return Checked::Refused {
-            number: 5,
+            number: Refusal::BAD_REQUEST,
             place: 0,
         };
     }
-    check_steps(asked, STEPS)
+    check_steps(asked, Limit::ASKED)
 }
 
 // The checks of the types, the asked steps and the rounds.
@@ -47,7 +46,7 @@ fn check_question(known: &[u64], asked: &[u64], target: &[u64], rounds: u64) -> 
 
 // The plan of a question that passed its checks.
 fn plan_checked<'a>(
-    flat: &[u64; 768],
+    flat: &Columns,
     count: usize,
     store: &'a [u64],
     known: &'a [u64],
@@ -58,19 +57,19 @@ fn plan_checked<'a>(
     steps: &mut [u64],
     ty: &mut [u64],
 ) -> Report
-    requires { ⌜ Whole (now known) × Whole (now target) × (rounds ≤ 64) ⌝ }
+    requires { ⌜ Whole (now known) × Whole (now target) × (rounds ≤ limit.rounds) ⌝ }
     ensures answer { λ r. ⌜ r ≡ report.told (answers.planned (readFrom (now (flat .entry)) 0 count) (now (store .entry)) (now (known .entry)) (now (asked .entry)) (now (target .entry)) level rounds (length (now (steps .entry))) (length (now (ty .entry)))) ⌝ }
     ensures written { λ _. ⌜ now (steps .exit) ≡ report.stepsOver (answers.planned (readFrom (now (flat .entry)) 0 count) (now (store .entry)) (now (known .entry)) (now (asked .entry)) (now (target .entry)) level rounds (length (now (steps .entry))) (length (now (ty .entry)))) (now (steps .entry)) ⌝ }
     ensures reported { λ _. ⌜ now (ty .exit) ≡ report.typeOver (answers.planned (readFrom (now (flat .entry)) 0 count) (now (store .entry)) (now (known .entry)) (now (asked .entry)) (now (target .entry)) level rounds (length (now (steps .entry))) (length (now (ty .entry)))) (now (ty .entry)) ⌝ }
 {
     if !in_order(flat, count, store) {
-        return refuse(12, 0);
+        return refuse(Refusal::TABLE_NOT_IN_ORDER, 0);
     }
     if !is_wellformed(known) {
-        return refuse(4, 0);
+        return refuse(Refusal::ILL_FORMED, 0);
     }
     if !is_wellformed(target) {
-        return refuse(4, 0);
+        return refuse(Refusal::ILL_FORMED, 0);
     }
     plan_in_rounds(
         flat,
@@ -88,7 +87,7 @@ fn plan_checked<'a>(
 
 // The plan of a question about a table that is given by its columns, as gather makes them.
 pub fn plan_among<'a>(
-    flat: &[u64; 768],
+    flat: &Columns,
     count: usize,
     store: &'a [u64],
     known: &'a [u64],

@@ -4,6 +4,7 @@ use mathlib.Core.List.{List, [], _∷_}
 use Prim.Native.Nat.{ℕ, _+_, _*_}
 use lib.Dec.{eqb, leb}
 use lib.ListN.{length, take, drop, getD}
+use Rattle.type_numbers.specs.Limit as limit
 
 -- From 1 to a limit.
 abbrev pub upTo : ℕ → ℕ → Bool
@@ -19,7 +20,7 @@ layerCounts ws = take (count ws) (drop 1 ws)
 
 unfoldable pub goodCounts : List ℕ → Bool
 goodCounts [] = true
-goodCounts (c ∷ cs) = upTo 16 c && goodCounts cs
+goodCounts (c ∷ cs) = upTo limit.layers c && goodCounts cs
 
 unfoldable pub total : List ℕ → ℕ
 total [] = 0
@@ -28,7 +29,7 @@ total (c ∷ cs) = c + total cs
 -- "then the bodies. Any other length or count: 16."
 unfoldable pub isSheet : List ℕ → Bool
 isSheet ws =
-    upTo 32 (count ws)
+    upTo limit.sheetTypes (count ws)
     && goodCounts (layerCounts ws)
     && eqb (length ws) (1 + count ws + 3 * total (layerCounts ws))
 

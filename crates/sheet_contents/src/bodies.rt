@@ -1,8 +1,10 @@
+use type_numbers::Limit;
 ghost use mathlib.Core.Path.{_≡_};
 ghost use mathlib.Core.Bool.{cond};
 ghost use Prim.Native.Nat.{_≤_};
 ghost use lib.ListN.{length};
 ghost use Rattle.sheet_contents.specs.Contents as sheet;
+ghost use Rattle.type_numbers.specs.Limit as limit;
 
 // Whether a count is from 1 to a limit.
 fn up_to(most: u64, n: u64) -> bool
@@ -21,7 +23,7 @@ fn total(counts: &[u64]) -> usize
     let mut i = 0;
     while i < counts.len() {
         let c = counts[i];
-        if !up_to(16, c) {
+        if !up_to(Limit::LAYERS, c) {
             return 0;
         }
         sum += c as usize;
@@ -39,7 +41,7 @@ pub fn types_in(words: &[u64]) -> usize
         return 0;
     }
     let count = words[0];
-    if !up_to(32, count) {
+    if !up_to(Limit::SHEET_TYPES, count) {
         return 0;
     }
     let n = count as usize;

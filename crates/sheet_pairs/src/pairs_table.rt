@@ -5,6 +5,7 @@ use sheet_text::put;
 use sheet_text::put_number;
 use sheet_words::words_of;
 use type_layers::Checked;
+use type_numbers::Limit;
 ghost use mathlib.Core.Path.{_≡_};
 ghost use mathlib.Core.List.{_++_};
 ghost use Prim.Native.Nat.{_+_, _*_, _≤_, _<_};
@@ -71,7 +72,7 @@ fn put_table(out: &mut [u8], words: &[u64], n: usize) -> usize
 }
 
 // Puts what `pairs` prints of the bytes that it read into a lent text, from its first byte on; and how long it is.
-pub fn pairs_text(bytes: &[u8], out: &mut [u8; 18494]) -> usize
+pub fn pairs_text(bytes: &[u8], out: &mut [u8; Limit::PAIRS_BYTES]) -> usize
     ensures length { λ r. ⌜ (r ≡ length (text.text (now (bytes .entry)))) × (r ≤ length (now (out .exit))) × (r ≡ length (take r (now (out .exit)))) ⌝ }
     ensures text { λ _. ⌜ now (out .exit) ≡ written (text.text (now (bytes .entry))) (now (out .entry)) ⌝ }
 {

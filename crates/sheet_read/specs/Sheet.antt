@@ -4,6 +4,7 @@ use mathlib.Core.List.{List, [], _∷_}
 use Prim.Native.Nat.{ℕ, _%_}
 use lib.Dec.{eqb}
 use lib.ListN.{length}
+use Rattle.type_numbers.specs.Refusal as refusal
 use Rattle.sheet_words.specs.Little.{wholeWords}
 use Rattle.type_layers.specs.Answer.{Answer, given, refused, next}
 use Rattle.type_checks.specs.Check.{checkOf}
@@ -15,7 +16,7 @@ checkAll [] c = c
 checkAll (t ∷ ts) c = next (checkOf t) (checkAll ts c)
 
 abbrev pub badSheet : Answer ℕ
-badSheet = refused 16 0
+badSheet = refused refusal.badSheet 0
 
 -- "A sheet's 16 comes before all of these." How many types a sheet has.
 unfoldable pub readWords : List ℕ → Answer ℕ

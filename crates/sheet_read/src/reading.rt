@@ -3,20 +3,17 @@ use sheet_contents::types_in;
 use sheet_words::words_of;
 use type_first_refusal::check_type;
 use type_layers::Checked;
+use type_numbers::Limit;
+use type_numbers::Refusal;
 ghost use mathlib.Core.Path.{_≡_};
 ghost use Rattle.type_layers.specs.Answer.{ofChecked};
 ghost use Rattle.sheet_read.specs.Sheet as sheet;
-
-const BAD_SHEET: u64 = 16;
-
-// The bytes of 32 types of 16 layers.
-const LONGEST: usize = 12552;
 
 fn bad_sheet() -> Checked
     ensures { λ r. ⌜ ofChecked r ≡ sheet.badSheet ⌝ }
 {
     Checked::Refused {
-        number: BAD_SHEET,
+        number: Refusal::BAD_SHEET,
         place: 0,
     }
 }
@@ -44,7 +41,7 @@ pub fn read_words(words: &[u64]) -> Checked
 pub fn read_sheet(bytes: &[u8]) -> Checked
     ensures { λ r. ⌜ ofChecked r ≡ sheet.readSheet (now (bytes .entry)) ⌝ }
 {
-    if bytes.len() > LONGEST {
+    if bytes.len() > Limit::SHEET_BYTES {
         return bad_sheet();
     }
     if bytes.len() % 8 != 0 {

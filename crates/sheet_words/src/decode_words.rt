@@ -1,3 +1,4 @@
+use type_numbers::Limit;
 ghost use mathlib.Core.Path.{_≡_};
 ghost use mathlib.Core.List.{[], _∷_};
 ghost use Prim.Native.Nat.{_+_, _*_, _/_, _≤_};
@@ -32,12 +33,12 @@ fn word_at(bytes: &[u8], at: usize) -> u64
 }
 
 // The whole words of the bytes, and zeros behind them; zeros alone where they are more than any sheet has.
-pub fn words_of(bytes: &[u8]) -> [u64; 1569]
+pub fn words_of(bytes: &[u8]) -> [u64; Limit::SHEET_WORDS]
     ensures { λ r. ⌜ r ≡ written (wholeWords (now (bytes .entry))) (replicate 1569 0) ⌝ }
 {
-    let mut words = [0; 1569];
+    let mut words = [0; Limit::SHEET_WORDS];
     let n = bytes.len() / 8;
-    if n > 1569 {
+    if n > Limit::SHEET_WORDS {
         return words;
     }
     let mut i = 0;

@@ -4,6 +4,9 @@ use mathlib.Core.List.{List, _++_}
 use Prim.Native.Nat.{ℕ, _*_}
 use lib.Dec.{eqb}
 use lib.ListN.{length, take, drop, getD, set}
+use Rattle.type_numbers.specs.Limit as limit
+use Rattle.type_numbers.specs.Effect as effect
+use Rattle.type_numbers.specs.Refusal as refusal
 use Rattle.symbol_columns.specs.declared.symbol.Symbol.{Symbol}
 use Rattle.symbol_columns.specs.Rows.{vacant}
 use Rattle.symbol_columns.specs.Stored.{slotWords}
@@ -23,7 +26,7 @@ use Rattle.symbol_change.specs.declared.change.Change.{Change}
 -- formed or not. Forward declaration overwrites or inserts." Value 3: a record was inserted.
 abbrev pub inserts : Act → List ℕ → ℕ → Bool → ℕ → ℕ → List ℕ → Deed
 inserts a ws id authority place mark offered =
-    deed (filled a id authority place mark offered) (filledWords a offered ws) (accepted 3)
+    deed (filled a id authority place mark offered) (filledWords a offered ws) (accepted effect.inserted)
 
 -- An operation's outcome: the answer, and what the table and the store hold then.
 pub record Outcome : Type 0 where
@@ -33,7 +36,7 @@ pub record Outcome : Type 0 where
 
 -- "Slot k's type stands in a lent store of words from 48k on.": the store with other words in slot k.
 abbrev pub withSlot : List ℕ → ℕ → List ℕ → List ℕ
-withSlot store k ws = take (k * 48) store ++ (ws ++ drop 48 (drop (k * 48) store))
+withSlot store k ws = take (k * limit.slotWords) store ++ (ws ++ drop limit.slotWords (drop (k * limit.slotWords) store))
 
 abbrev pub atSlot : ℕ → Deed → List Symbol → List ℕ → Outcome
 atSlot k d table store =
@@ -50,7 +53,7 @@ outcomeBy (way.free k) a id authority place mark offered table store =
 
 -- "Put with nothing: accepted, unchanged." "12 table not in order"
 abbrev pub nothingPut : List Symbol → List ℕ → Answer
-nothingPut table store = cond (inOrder table store) (accepted 0) (notAccepted 12 0)
+nothingPut table store = cond (inOrder table store) (accepted effect.kept) (notAccepted refusal.tableNotInOrder 0)
 
 unfoldable pub outcome : Operation → ℕ → Bool → ℕ → ℕ → List ℕ → List Symbol → List ℕ → Outcome
 outcome putNothing id authority place mark offered table store =
@@ -67,7 +70,7 @@ inSlot k u = record { slot = k; symbol = u .symbol; answer = u .answer }
 
 -- An answer of a record that was found tells whether it changed: not by a refusal, and not with value 0.
 abbrev pub isChanged : Answer → Bool
-isChanged a = eqb (a .refusal) 0 && not (eqb (a .value) 0)
+isChanged a = eqb (a .refusal) 0 && not (eqb (a .value) effect.kept)
 
 -- Where nothing changes nothing is stored.
 abbrev pub ifChanged : ℕ → ℕ → Updated → Change

@@ -1,3 +1,4 @@
+use symbol_columns::Columns;
 use symbol_columns::Symbol;
 use symbol_columns::row;
 use symbol_operations::Act;
@@ -10,6 +11,10 @@ use symbol_record::overwrite;
 use symbol_slot::Way;
 use symbol_slot::way_of;
 use symbol_update::Updated;
+use type_numbers::Effect;
+use type_numbers::Limit;
+use type_numbers::Refusal;
+use type_numbers::State;
 use write_answer::Answer;
 use write_answer::accepted;
 use write_answer::refused;
@@ -33,7 +38,7 @@ fn nowhere(n: usize, answer: Answer) -> Change
         id: 0,
         authority: false,
         place: 0,
-        state: 0,
+        state: State::FREE,
         layers: 0,
         mark: 0,
     };
@@ -47,7 +52,7 @@ fn nowhere(n: usize, answer: Answer) -> Change
 fn is_changed(a: Answer) -> bool
     ensures { λ r. ⌜ r ≡ rules.isChanged a ⌝ }
 {
-    (a.refusal == 0) & (a.value != 0)
+    (a.refusal == 0) & (a.value != Effect::KEPT)
 }
 
 // What became of the record that was found.
@@ -68,20 +73,20 @@ fn if_changed(n: usize, slot: usize, u: Updated) -> Change
 }
 
 // A put with nothing: the table is judged, and that is all.
-fn keep(flat: &[u64; 768], n: usize, store: &[u64]) -> Change
+fn keep(flat: &Columns, n: usize, store: &[u64]) -> Change
     ensures { λ r. ⌜ r ≡ rules.nowhere n (rules.nothingPut (readFrom (now (flat .entry)) 0 n) (now (store .entry))) ⌝ }
 {
     if in_order(flat, n, store) {
-        nowhere(n, accepted(0))
+        nowhere(n, accepted(Effect::KEPT))
     } else {
-        nowhere(n, refused(12, 0))
+        nowhere(n, refused(Refusal::TABLE_NOT_IN_ORDER, 0))
     }
 }
 
 // An act in a table that is given by its columns. The slot's part of the store is lent on, and written there.
 fn act_in(
     act: Act,
-    flat: &[u64; 768],
+    flat: &Columns,
     n: usize,
     store: &mut [u64],
     id: u32,
@@ -96,20 +101,20 @@ fn act_in(
     match way_of(act, flat, n, store, id, offered) {
         Way::Refused { number, place: at } => nowhere(n, refused(number, at)),
         Way::Found(at) => {
-            let from = at * 48;
+            let from = at * Limit::SLOT_WORDS;
             let s = row(flat, at, id);
-            let slot = &mut store[from..from + 48];
+            let slot = &mut store[from..from + Limit::SLOT_WORDS];
             let u = overwrite(act, s, slot, id, authority, place, mark, offered);
             if_changed(n, at, u)
         }
         Way::Free(at) => {
-            let from = at * 48;
-            let slot = &mut store[from..from + 48];
+            let from = at * Limit::SLOT_WORDS;
+            let slot = &mut store[from..from + Limit::SLOT_WORDS];
             let symbol = fill(act, slot, id, authority, place, mark, offered);
             Change {
                 slot: at,
                 symbol,
-                answer: accepted(3),
+                answer: accepted(Effect::INSERTED),
             }
         }
     }
@@ -117,7 +122,7 @@ fn act_in(
 
 // The change of a table that is given by its columns.
 pub fn choose(
-    flat: &[u64; 768],
+    flat: &Columns,
     n: usize,
     store: &mut [u64],
     operation: Operation,

@@ -1,3 +1,4 @@
+use type_numbers::Limit;
 ghost use mathlib.Core.Path.{_≡_};
 ghost use Rattle.symbol_columns.specs.Stored.{slotWords, storedWords};
 
@@ -5,14 +6,14 @@ ghost use Rattle.symbol_columns.specs.Stored.{slotWords, storedWords};
 pub fn slot_words(store: &[u64], k: usize) -> &[u64]
     ensures { λ r. ⌜ now r ≡ slotWords (now (store .entry)) k ⌝ }
 {
-    if k > store.len() / 48 {
+    if k > store.len() / Limit::SLOT_WORDS {
         return &store[..0];
     }
-    let rest = &store[k * 48..];
-    if rest.len() < 48 {
+    let rest = &store[k * Limit::SLOT_WORDS..];
+    if rest.len() < Limit::SLOT_WORDS {
         return rest;
     }
-    &rest[..48]
+    &rest[..Limit::SLOT_WORDS]
 }
 
 // The words of a stored type, which stand first in its slot; no words where they are not there.

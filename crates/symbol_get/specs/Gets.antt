@@ -4,6 +4,8 @@ use mathlib.Core.List.{List, []}
 use Prim.Native.Nat.{ℕ}
 use lib.Dec.{leb}
 use lib.ListN.{length, getD}
+use Rattle.type_numbers.specs.Refusal as refusal
+use Rattle.type_numbers.specs.State as of-state
 use Rattle.symbol_columns.specs.declared.symbol.Symbol.{Symbol}
 use Rattle.symbol_columns.specs.Rows.{vacant, typed}
 use Rattle.symbol_columns.specs.Stored.{slotWords, storedWords}
@@ -27,13 +29,13 @@ got id authority table store =
     (cond (leb (length table) (slotFor id table)) got′.absent
     (cond (typed (getD table (slotFor id table) vacant)) (got′.typed (slotFor id table))
     (got′.poisoned (markFor authority (getD table (slotFor id table) vacant .mark)))))
-    (got′.refused 12 0)
+    (got′.refused refusal.tableNotInOrder 0)
 
 -- 0 absent; 1 typed; 2 poisoned.
 abbrev pub told : Got → Answer
-told got′.absent = accepted 0
-told (got′.typed k) = accepted 1
-told (got′.poisoned m) = accepted 2
+told got′.absent = accepted of-state.free
+told (got′.typed k) = accepted of-state.typed
+told (got′.poisoned m) = accepted of-state.poisoned
 told (got′.refused n p) = notAccepted n p
 
 -- Where it is typed, the slot; where it is poisoned, the mark; else what was there.

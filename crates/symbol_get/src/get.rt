@@ -1,8 +1,11 @@
+use symbol_columns::Columns;
 use symbol_columns::row;
 use symbol_columns::slot_words;
 use symbol_columns::stored_words;
 use symbol_order::in_order;
 use symbol_search::slot_of;
+use type_numbers::Refusal;
+use type_numbers::State;
 use write_answer::Answer;
 use write_answer::accepted;
 use write_answer::refused;
@@ -24,12 +27,12 @@ fn mark_for(authority: bool, mark: u64) -> u64
     if authority { mark } else { 0 }
 }
 
-fn look(flat: &[u64; 768], n: usize, store: &[u64], id: u32, authority: bool) -> Got
+fn look(flat: &Columns, n: usize, store: &[u64], id: u32, authority: bool) -> Got
     ensures { λ r. ⌜ rules.ofGot r ≡ rules.got id authority (readFrom (now (flat .entry)) 0 n) (now (store .entry)) ⌝ }
 {
     if !in_order(flat, n, store) {
         return Got::Refused {
-            number: 12,
+            number: Refusal::TABLE_NOT_IN_ORDER,
             place: 0,
         };
     }
@@ -38,7 +41,7 @@ fn look(flat: &[u64; 768], n: usize, store: &[u64], id: u32, authority: bool) ->
         return Got::Absent;
     }
     let s = row(flat, at, id);
-    if s.state == 1 {
+    if s.state == State::TYPED {
         Got::Typed(at)
     } else {
         Got::Poisoned(mark_for(authority, s.mark))
@@ -51,14 +54,14 @@ fn tell(got: Got, found: &mut u64) -> Answer
     ensures written { λ _. ⌜ now (found .exit) ≡ rules.foundAfter (rules.ofGot got) (now (found .entry)) ⌝ }
 {
     match got {
-        Got::Absent => accepted(0),
+        Got::Absent => accepted(State::FREE),
         Got::Typed(at) => {
             *found = at as u64;
-            accepted(1)
+            accepted(State::TYPED)
         }
         Got::Poisoned(mark) => {
             *found = mark;
-            accepted(2)
+            accepted(State::POISONED)
         }
         Got::Refused { number, place } => refused(number, place),
     }
@@ -66,7 +69,7 @@ fn tell(got: Got, found: &mut u64) -> Answer
 
 // What a table that is given by its columns has under a name.
 pub fn get_among(
-    flat: &[u64; 768],
+    flat: &Columns,
     n: usize,
     store: &[u64],
     id: u32,
@@ -81,7 +84,7 @@ pub fn get_among(
 }
 
 // The type that it has under a name, as the part of the store that holds it.
-pub fn type_among<'a>(flat: &[u64; 768], n: usize, store: &'a [u64], id: u32) -> &'a [u64]
+pub fn type_among<'a>(flat: &Columns, n: usize, store: &'a [u64], id: u32) -> &'a [u64]
     ensures { λ r. ⌜ now r ≡ rules.typeOf id (readFrom (now (flat .entry)) 0 n) (now (store .entry)) ⌝ }
 {
     match look(flat, n, store, id, true) {

@@ -4,8 +4,10 @@ use mathlib.Core.List.{List}
 use Prim.Native.Nat.{ℕ, zero, suc}
 use lib.Dec.{ltb}
 use lib.ListN.{length, getD, replicate}
+use Rattle.type_numbers.specs.Limit as limit
 use Rattle.symbol_columns.specs.declared.symbol.Symbol.{Symbol}
 use Rattle.symbol_columns.specs.Rows.{vacant, putRow}
+use Rattle.symbol_columns.specs.Column as column
 
 -- The first k records in their columns, over the words that stand there.
 unfoldable pub rowsInto : List ℕ → List Symbol → ℕ → List ℕ
@@ -14,8 +16,8 @@ rowsInto ws table (suc k) = putRow (rowsInto ws table k) k (getD table k vacant)
 
 -- The columns of at most 128 records; of more, the words stay.
 unfoldable pub gatheredInto : List ℕ → List Symbol → List ℕ
-gatheredInto ws table = cond (ltb 128 (length table)) ws (rowsInto ws table (length table))
+gatheredInto ws table = cond (ltb limit.records (length table)) ws (rowsInto ws table (length table))
 
 -- The same over zeros.
 abbrev pub gathered : List Symbol → List ℕ
-gathered table = gatheredInto (replicate 768 0) table
+gathered table = gatheredInto (replicate column.words 0) table

@@ -1,4 +1,5 @@
 use symbol_columns::Symbol;
+use type_numbers::State;
 ghost use mathlib.Core.Path.{_≡_};
 ghost use Rattle.symbol_search.specs.Search.{has, slotFor};
 
@@ -6,7 +7,7 @@ ghost use Rattle.symbol_search.specs.Search.{has, slotFor};
 fn has_id(s: Symbol, id: u32) -> bool
     ensures { λ r. ⌜ r ≡ has id s ⌝ }
 {
-    (s.id == id) & (s.state != 0)
+    (s.id == id) & (s.state != State::FREE)
 }
 
 // The first record of a table that is taken and has the id, or the number of records.

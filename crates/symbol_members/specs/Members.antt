@@ -4,6 +4,7 @@ use mathlib.Core.List.{List, [], _∷_}
 use Prim.Native.Nat.{ℕ}
 use lib.Dec.{ltb}
 use lib.ListN.{getD}
+use Rattle.type_numbers.specs.Limit as limit
 use Rattle.type_layers.specs.Layers.{Layer, layers}
 use Rattle.symbol_columns.specs.declared.symbol.Symbol.{Symbol}
 use Rattle.symbol_columns.specs.Rows.{vacant, readFrom, typed}
@@ -22,7 +23,7 @@ memberWords table store id = wordsAt (getD table (slotFor id table) vacant) (slo
 
 -- The same of columns: of more than 128 rows, none.
 unfoldable pub memberIn : List ℕ → ℕ → List ℕ → ℕ → List ℕ
-memberIn ws n store id = cond (ltb 128 n) [] (memberWords (readFrom ws 0 n) store id)
+memberIn ws n store id = cond (ltb limit.records n) [] (memberWords (readFrom ws 0 n) store id)
 
 abbrev pub ofLayers : List Layer → Stored
 ofLayers [] = stored.absent

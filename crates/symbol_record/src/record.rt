@@ -4,6 +4,8 @@ use symbol_operations::offers_type;
 use symbol_update::Updated;
 use symbol_update::typed;
 use symbol_update::update;
+use type_numbers::Effect;
+use type_numbers::State;
 use write_answer::accepted;
 use write_words::write_words;
 ghost use mathlib.Core.Path.{_≡_};
@@ -17,7 +19,7 @@ fn poisoned(id: u32, authority: bool, place: u64, mark: u64) -> Symbol
         id,
         authority,
         place,
-        state: 2,
+        state: State::POISONED,
         layers: 0,
         mark,
     }
@@ -61,18 +63,18 @@ pub fn overwrite(
     match act {
         Act::PutPoison => Updated {
             symbol: poisoned(s.id, s.authority, s.place, mark),
-            answer: accepted(4),
+            answer: accepted(Effect::OVERWRITTEN),
         },
         Act::PutType => update(s, words, id, authority, place, offered),
         Act::ForwardPoison => Updated {
             symbol: poisoned(id, authority, place, mark),
-            answer: accepted(4),
+            answer: accepted(Effect::OVERWRITTEN),
         },
         Act::ForwardType => {
             write_words(words, offered);
             Updated {
                 symbol: typed(id, authority, place, offered),
-                answer: accepted(4),
+                answer: accepted(Effect::OVERWRITTEN),
             }
         }
     }

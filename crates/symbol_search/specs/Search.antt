@@ -3,6 +3,7 @@ use mathlib.Core.Bool.{Bool, cond, not, _&&_}
 use mathlib.Core.List.{List, [], _∷_}
 use Prim.Native.Nat.{ℕ, suc}
 use lib.Dec.{eqb, ltb}
+use Rattle.type_numbers.specs.Limit as limit
 use Rattle.symbol_columns.specs.declared.symbol.Symbol.{Symbol}
 use Rattle.symbol_columns.specs.Rows.{free, readFrom}
 
@@ -22,7 +23,7 @@ slotFor id (s ∷ table) = cond (has id s) 0 (suc (slotFor id table))
 
 -- The same of columns: of more than 128 rows, their number.
 unfoldable pub freeIn : List ℕ → ℕ → ℕ
-freeIn ws n = cond (ltb 128 n) n (firstFree (readFrom ws 0 n))
+freeIn ws n = cond (ltb limit.records n) n (firstFree (readFrom ws 0 n))
 
 unfoldable pub slotIn : List ℕ → ℕ → ℕ → ℕ
-slotIn ws n id = cond (ltb 128 n) n (slotFor id (readFrom ws 0 n))
+slotIn ws n id = cond (ltb limit.records n) n (slotFor id (readFrom ws 0 n))

@@ -4,6 +4,7 @@ use mathlib.Core.List.{List}
 use Prim.Native.Nat.{ℕ}
 use lib.Dec.{ltb}
 use lib.ListN.{length}
+use Rattle.type_numbers.specs.Refusal as refusal
 use Rattle.type_layers.specs.Answer.{Answer, given, nothing, refused}
 use Rattle.type_checks.specs.Check.{checkOf}
 use Rattle.symbol_columns.specs.declared.symbol.Symbol.{Symbol}
@@ -26,8 +27,8 @@ placeOf id table store =
     cond (inOrder table store)
     (cond (ltb (slotFor id table) (length table)) (way.found (slotFor id table))
     (cond (ltb (firstFree table) (length table)) (way.free (firstFree table))
-    (way.refused 13 0)))
-    (way.refused 12 0)
+    (way.refused refusal.tableFull 0)))
+    (way.refused refusal.tableNotInOrder 0)
 
 abbrev pub unless : Answer ℕ → Way → Way
 unless (refused n p) w = way.refused n p

@@ -1,3 +1,4 @@
+use symbol_columns::Columns;
 use symbol_operations::Act;
 use symbol_operations::offers_type;
 use symbol_order::in_order;
@@ -5,6 +6,7 @@ use symbol_search::first_free;
 use symbol_search::slot_of;
 use type_first_refusal::check_type;
 use type_layers::Checked;
+use type_numbers::Refusal;
 ghost use mathlib.Core.Path.{_≡_};
 ghost use Rattle.type_layers.specs.Answer.{ofChecked};
 ghost use Rattle.symbol_columns.specs.Rows.{readFrom};
@@ -29,12 +31,12 @@ fn check_offered(act: Act, offered: &[u64]) -> Checked
     }
 }
 
-fn slot_for(flat: &[u64; 768], n: usize, store: &[u64], id: u32) -> Way
+fn slot_for(flat: &Columns, n: usize, store: &[u64], id: u32) -> Way
     ensures { λ r. ⌜ rules.ofWay r ≡ rules.placeOf id (readFrom (now (flat .entry)) 0 n) (now (store .entry)) ⌝ }
 {
     if !in_order(flat, n, store) {
         return Way::Refused {
-            number: 12,
+            number: Refusal::TABLE_NOT_IN_ORDER,
             place: 0,
         };
     }
@@ -47,13 +49,13 @@ fn slot_for(flat: &[u64; 768], n: usize, store: &[u64], id: u32) -> Way
         return Way::Free(free);
     }
     Way::Refused {
-        number: 13,
+        number: Refusal::TABLE_FULL,
         place: 0,
     }
 }
 
 // The refusals of the offered type come before those of the table.
-pub fn way_of(act: Act, flat: &[u64; 768], n: usize, store: &[u64], id: u32, offered: &[u64]) -> Way
+pub fn way_of(act: Act, flat: &Columns, n: usize, store: &[u64], id: u32, offered: &[u64]) -> Way
     ensures { λ r. ⌜ rules.ofWay r ≡ rules.wayOf (ofAct act) id (now (offered .entry)) (readFrom (now (flat .entry)) 0 n) (now (store .entry)) ⌝ }
 {
     match check_offered(act, offered) {

@@ -4,6 +4,9 @@ use mathlib.Core.List.{List}
 use Prim.Native.Nat.{ℕ, _/_}
 use lib.Dec.{eqb}
 use lib.ListN.{length}
+use Rattle.type_numbers.specs.Effect as effect
+use Rattle.type_numbers.specs.Refusal as refusal
+use Rattle.type_numbers.specs.State as of-state
 use Rattle.type_layers.specs.Layers.{layers}
 use Rattle.write_words.specs.Written.{written}
 use Rattle.symbol_columns.specs.declared.symbol.Symbol.{Symbol}
@@ -18,17 +21,17 @@ use Rattle.symbol_update.specs.declared.update_record.Updated.{Updated}
 -- Accepted: 0 where nothing changes, 1 where the type is replaced, 2 where both are. "Every refusal returns its number and
 -- a place (0 unless named)".
 abbrev pub answerBy : Line → Answer
-answerBy line.poisoned = accepted 0
-answerBy line.illFormed = notAccepted 4 0
-answerBy line.kept = accepted 0
-answerBy line.typeReplaced = accepted 1
-answerBy line.bothReplaced = accepted 2
-answerBy line.conflicting = notAccepted 7 0
+answerBy line.poisoned = accepted effect.kept
+answerBy line.illFormed = notAccepted refusal.illFormed 0
+answerBy line.kept = accepted effect.kept
+answerBy line.typeReplaced = accepted effect.typeReplaced
+answerBy line.bothReplaced = accepted effect.bothReplaced
+answerBy line.conflicting = notAccepted refusal.conflict 0
 
 -- A record of a type that was written, under an identifier: "writing a type sets the mark to 0".
 abbrev pub typed : ℕ → Bool → ℕ → List ℕ → Symbol
 typed id authority place ws =
-    record { id = id; authority = authority; place = place; state = 1; layers = length ws / 3; mark = 0 }
+    record { id = id; authority = authority; place = place; state = of-state.typed; layers = length ws / 3; mark = 0 }
 
 abbrev pub recordBy : Line → Symbol → ℕ → Bool → ℕ → List ℕ → Symbol
 recordBy line.poisoned s id authority place offered = s
@@ -50,7 +53,7 @@ wordsBy line.conflicting offered ws = ws
 -- The line that applies to a record, its words, the new identifier's authority and the offered words. "2 poisoned"
 abbrev pub lineAt : Symbol → List ℕ → Bool → List ℕ → Line
 lineAt s ws authority offered =
-    lineOf (eqb (s .state) 2) (s .authority) authority (layers (storedWords (s .layers) ws)) (layers offered)
+    lineOf (eqb (s .state) of-state.poisoned) (s .authority) authority (layers (storedWords (s .layers) ws)) (layers offered)
 
 unfoldable pub updated : Symbol → List ℕ → ℕ → Bool → ℕ → List ℕ → Updated
 updated s ws id authority place offered =

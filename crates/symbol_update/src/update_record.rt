@@ -2,6 +2,9 @@ use symbol_columns::Symbol;
 use symbol_columns::stored_words;
 use symbol_update_rule::Line;
 use symbol_update_rule::decide;
+use type_numbers::Effect;
+use type_numbers::Refusal;
+use type_numbers::State;
 use write_answer::Answer;
 use write_answer::accepted;
 use write_answer::refused;
@@ -23,7 +26,7 @@ pub fn typed(id: u32, authority: bool, place: u64, offered: &[u64]) -> Symbol
         id,
         authority,
         place,
-        state: 1,
+        state: State::TYPED,
         layers: (offered.len() / 3) as u64,
         mark: 0,
     }
@@ -42,7 +45,7 @@ pub fn update(
     ensures written { λ _. ⌜ now (words .exit) ≡ rules.wordsAfter s (now (words .entry)) authority (now (offered .entry)) ⌝ }
 {
     let line = decide(
-        s.state == 2,
+        s.state == State::POISONED,
         s.authority,
         authority,
         stored_words(words, s.layers),
@@ -51,33 +54,33 @@ pub fn update(
     match line {
         Line::Poisoned => Updated {
             symbol: s,
-            answer: accepted(0),
+            answer: accepted(Effect::KEPT),
         },
         Line::IllFormed => Updated {
             symbol: s,
-            answer: refused(4, 0),
+            answer: refused(Refusal::ILL_FORMED, 0),
         },
         Line::Kept => Updated {
             symbol: s,
-            answer: accepted(0),
+            answer: accepted(Effect::KEPT),
         },
         Line::TypeReplaced => {
             write_words(words, offered);
             Updated {
                 symbol: typed(s.id, s.authority, s.place, offered),
-                answer: accepted(1),
+                answer: accepted(Effect::TYPE_REPLACED),
             }
         }
         Line::BothReplaced => {
             write_words(words, offered);
             Updated {
                 symbol: typed(id, authority, place, offered),
-                answer: accepted(2),
+                answer: accepted(Effect::BOTH_REPLACED),
             }
         }
         Line::Conflicting => Updated {
             symbol: s,
-            answer: refused(7, 0),
+            answer: refused(Refusal::CONFLICT, 0),
         },
     }
 }

@@ -2,6 +2,7 @@
 use mathlib.Core.Bool.{Bool, cond, not, _&&_}
 use mathlib.Core.List.{List, [], _∷_}
 use Prim.Native.Nat.{ℕ}
+use Rattle.type_numbers.specs.Refusal as refusal
 use Rattle.type_layers.specs.Answer as paper
 use Rattle.type_layers.specs.Answer.{given, nothing, refused, next}
 use Rattle.type_checks.specs.Check.{checkOf}
@@ -17,7 +18,7 @@ loneInOrder s ws = inOrder (s ∷ []) ws && not (free s)
 
 -- "12 table not in order", after the checks 1 to 3 of what is offered.
 unfoldable pub loneCheck : Symbol → List ℕ → List ℕ → paper.Answer ℕ
-loneCheck s ws offered = next (checkOf offered) (cond (loneInOrder s ws) (given 0) (refused 12 0))
+loneCheck s ws offered = next (checkOf offered) (cond (loneInOrder s ws) (given 0) (refused refusal.tableNotInOrder 0))
 
 abbrev pub unlessRefused : paper.Answer ℕ → Symbol → Updated → Updated
 unlessRefused (given n) s u = u

@@ -4,6 +4,10 @@ use symbol_update::Updated;
 use symbol_update::update;
 use type_checks::is_type;
 use type_first_refusal::check_type;
+use type_numbers::Effect;
+use type_numbers::Limit;
+use type_numbers::Refusal;
+use type_numbers::State;
 use write_answer::Answer;
 use write_answer::checked;
 use write_answer::refused;
@@ -14,14 +18,14 @@ ghost use Rattle.symbol_update_lone.specs.Lone as rules;
 fn in_order(s: Symbol, words: &[u64]) -> bool
     ensures { λ r. ⌜ r ≡ rules.loneInOrder s (now (words .entry)) ⌝ }
 {
-    if words.len() != 48 {
+    if words.len() != Limit::SLOT_WORDS {
         return false;
     }
     let state = s.state;
-    if state == 2 {
+    if state == State::POISONED {
         return true;
     }
-    if state != 1 {
+    if state != State::TYPED {
         return false;
     }
     is_type(stored_words(words, s.layers))
@@ -48,7 +52,7 @@ pub fn update_lone(
     if !in_order(s, words) {
         return Updated {
             symbol: s,
-            answer: refused(12, 0),
+            answer: refused(Refusal::TABLE_NOT_IN_ORDER, 0),
         };
     }
     update(s, words, id, authority, place, offered)
@@ -70,7 +74,7 @@ pub fn do_update_symbol(
     let s = *symbol;
     let u = update_lone(s, words, id, authority, place, offered);
     let a = u.answer;
-    if (a.refusal != 0) | (a.value == 0) {
+    if (a.refusal != 0) | (a.value == Effect::KEPT) {
         return a;
     }
     *symbol = u.symbol;

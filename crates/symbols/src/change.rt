@@ -1,4 +1,5 @@
 use symbol_change::choose;
+use symbol_columns::Column;
 use symbol_columns::Symbol;
 use symbol_lent::gather;
 use symbol_operations::Operation;
@@ -23,7 +24,7 @@ pub fn change_symbol(
         × (now (table .exit) ≡ rules.outcome (ofOperation operation) id authority place mark (now (offered .entry)) (now (table .entry)) (now (store .entry)) .table)
         × (now (store .exit) ≡ rules.outcome (ofOperation operation) id authority place mark (now (offered .entry)) (now (table .entry)) (now (store .entry)) .store) ⌝ }
 {
-    let mut flat = [0u64; 768];
+    let mut flat = [0u64; Column::WORDS];
     gather(table, &mut flat);
     let c = choose(
         &flat,

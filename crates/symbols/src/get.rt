@@ -1,3 +1,4 @@
+use symbol_columns::Column;
 use symbol_columns::Symbol;
 use symbol_get::get_among;
 use symbol_get::type_among;
@@ -17,7 +18,7 @@ pub fn get_symbol(
     ensures { λ r. ⌜ (r ≡ rules.told (rules.got id authority (now (table .entry)) (now (store .entry))))
         × (now (found .exit) ≡ rules.foundAfter (rules.got id authority (now (table .entry)) (now (store .entry))) (now (found .entry))) ⌝ }
 {
-    let mut flat = [0u64; 768];
+    let mut flat = [0u64; Column::WORDS];
     gather(table, &mut flat);
     get_among(&flat, table.len(), store, id, authority, found)
 }
@@ -26,7 +27,7 @@ pub fn get_symbol(
 pub fn get_type<'a>(table: &[Symbol], store: &'a [u64], id: u32) -> &'a [u64]
     ensures { λ r. ⌜ now r ≡ rules.typeOf id (now (table .entry)) (now (store .entry)) ⌝ }
 {
-    let mut flat = [0u64; 768];
+    let mut flat = [0u64; Column::WORDS];
     gather(table, &mut flat);
     type_among(&flat, table.len(), store, id)
 }

@@ -3,8 +3,8 @@ use crate::words::one;
 use crate::words::steps;
 use crate::words::three;
 use crate::words::two;
-use plan_steps::StepKind;
 use type_numbers::Kind;
+use type_numbers::StepKind;
 
 // How many types there are, and how many runs of asked steps.
 pub(crate) const TYPES: usize = 26;

@@ -8,8 +8,8 @@ use crate::report::given;
 use crate::report::text;
 use crate::words::Words;
 use crate::words::first;
-use plan_steps::StepKind;
 use type_numbers::Kind;
+use type_numbers::StepKind;
 ghost use mathlib.Core.Path.{_≡_};
 ghost use lib.ListN.{length};
 

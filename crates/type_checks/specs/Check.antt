@@ -4,6 +4,8 @@ use mathlib.Core.List.{List, [], _∷_}
 use Prim.Native.Nat.{ℕ, _+_, _/_, _%_, _-_, _^_}
 use lib.Dec.{eqb, leb, ltb}
 use lib.ListN.{length}
+use Rattle.type_numbers.specs.Limit as limit
+use Rattle.type_numbers.specs.Refusal as refusal
 use Rattle.type_numbers.specs.Kind as kind
 use Rattle.type_layers.specs.Layers.{Layer, layers, holdsInner}
 use Rattle.type_layers.specs.Answer.{Answer, given, refused}
@@ -15,7 +17,7 @@ pub data Place : Type 0 where
 
 -- "1 word count 0, over 48 or not a multiple of 3"
 abbrev pub badCount : ℕ → Bool
-badCount n = eqb n 0 || ltb 48 n || not (eqb (n % 3) 0)
+badCount n = eqb n 0 || ltb limit.typeWords n || not (eqb (n % 3) 0)
 
 -- "Name is a u32 value for 15, 20, 21 and a named 22." "Other fields are 0."
 abbrev pub named : Layer → Bool
@@ -26,7 +28,7 @@ named x =
     || (eqb (x .kind) kind.unresolvedStructOrWord && not (eqb (x .number) 0))
 
 abbrev pub goodName : Layer → Bool
-goodName x = cond (named x) (leb (x .name) (2 ^ 32 - 1)) (eqb (x .name) 0)
+goodName x = cond (named x) (leb (x .name) limit.name) (eqb (x .name) 0)
 
 -- "Number is the length for 14, the size for 21, and for 22 it is 1 with a name, 0 without (name then 0)." "Other fields are 0."
 abbrev pub goodNumber : Layer → Bool
@@ -37,7 +39,7 @@ goodNumber x =
 
 -- "2 a bad layer"
 unfoldable pub goodLayer : Layer → Bool
-goodLayer x = ltb (x .kind) 25 && goodName x && goodNumber x
+goodLayer x = ltb (x .kind) kind.none && goodName x && goodNumber x
 
 unfoldable pub badLayer : ℕ → List Layer → Place
 badLayer p [] = nowhere
@@ -57,7 +59,7 @@ unless nowhere n c = c
 -- The layer count, or the first refusal.
 unfoldable pub checkOf : List ℕ → Answer ℕ
 checkOf ws =
-    cond (badCount (length ws)) (refused 1 0)
-    (unless (badLayer 0 (layers ws)) 2
-    (unless (misplaced 0 (layers ws)) 3
+    cond (badCount (length ws)) (refused refusal.badCount 0)
+    (unless (badLayer 0 (layers ws)) refusal.badLayer
+    (unless (misplaced 0 (layers ws)) refusal.badLeaf
     (given (length ws / 3))))

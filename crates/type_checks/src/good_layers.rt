@@ -1,5 +1,6 @@
 use type_layers::holds_inner;
 use type_numbers::Kind;
+use type_numbers::Limit;
 ghost use mathlib.Core.Path.{_≡_};
 ghost use mathlib.Core.Bool.{not, _&&_};
 ghost use Rattle.type_layers.specs.Layers.{layer, holdsInner};
@@ -15,7 +16,7 @@ pub(crate) fn good_holder(k: u64, n: u64, m: u64) -> bool
     if (n == 0) & (m == 0) {
         return true;
     }
-    ((k == Kind::ARRAY_WITH_NAMED_LENGTH) & (n <= 4294967295) & (m == 0))
+    ((k == Kind::ARRAY_WITH_NAMED_LENGTH) & (n <= Limit::NAME) & (m == 0))
         | ((k == Kind::ARRAY) & (n == 0))
 }
 
@@ -28,7 +29,7 @@ pub(crate) fn good_leaf(k: u64, n: u64, m: u64) -> bool
     }
     let unresolved = k == Kind::UNRESOLVED_STRUCT_OR_WORD;
     ((((k == Kind::STRUCT) & (m == 0)) | (k == Kind::WORD) | (unresolved & (m == 1)))
-        & (n <= 4294967295))
+        & (n <= Limit::NAME))
         | (unresolved & (n == 0) & (m == 0))
 }
 

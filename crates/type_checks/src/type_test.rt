@@ -1,5 +1,6 @@
 use crate::good_layers::good_holder;
 use crate::good_layers::good_leaf;
+use type_numbers::Limit;
 ghost use mathlib.Core.Path.{_≡_};
 ghost use Rattle.type_layers.specs.Answer.{isGiven};
 ghost use Rattle.type_checks.specs.Check.{checkOf};
@@ -9,7 +10,7 @@ pub fn is_type(ws: &[u64]) -> bool
     ensures { λ r. ⌜ r ≡ isGiven (checkOf (now (ws .entry))) ⌝ }
 {
     let n = ws.len();
-    if (n == 0) | (n > 48) {
+    if (n == 0) | (n > Limit::TYPE_WORDS) {
         return false;
     }
     let mut at = 0;

@@ -2,15 +2,18 @@ use type_checks::good_layer;
 use type_checks::is_type;
 use type_layers::Checked;
 use type_layers::holds_inner;
+use type_numbers::Limit;
+use type_numbers::Refusal;
 ghost use mathlib.Core.Path.{_≡_};
 ghost use mathlib.Core.Bool.{cond, not, _&&_};
 ghost use lib.Dec.{eqb};
 ghost use Rattle.type_layers.specs.Layers.{holdsInner};
 ghost use Rattle.type_layers.specs.Answer.{next, ofChecked};
 ghost use Rattle.type_checks.specs.Check.{checkOf};
+ghost use Rattle.type_numbers.specs.Limit as limit;
 
 // The place of no layer: a type has at most 16, from 0.
-const NOWHERE: u64 = 16;
+const NOWHERE: u64 = Limit::LAYERS;
 
 // Whether a layer of this kind is a leaf early, or the last and no leaf.
 fn is_misplaced(k: u64, last: bool) -> bool
@@ -21,7 +24,7 @@ fn is_misplaced(k: u64, last: bool) -> bool
 
 // The first misplaced layer: the one that was found before, or this one where it is misplaced.
 fn earliest(found: u64, wrong: bool, place: u64) -> u64
-    ensures { λ r. ⌜ r ≡ cond (eqb found 16 && wrong) place found ⌝ }
+    ensures { λ r. ⌜ r ≡ cond (eqb found limit.layers && wrong) place found ⌝ }
 {
     if (found == NOWHERE) & wrong {
         place
@@ -35,9 +38,9 @@ fn first_refusal(ws: &[u64]) -> Checked
     ensures { λ r. ⌜ ofChecked r ≡ checkOf (now (ws .entry)) ⌝ }
 {
     let n = ws.len();
-    if (n == 0) | (n > 48) | (n % 3 != 0) {
+    if (n == 0) | (n > Limit::TYPE_WORDS) | (n % 3 != 0) {
         return Checked::Refused {
-            number: 1,
+            number: Refusal::BAD_COUNT,
             place: 0,
         };
     }
@@ -47,7 +50,10 @@ fn first_refusal(ws: &[u64]) -> Checked
     while at < n {
         let k = ws[at];
         if !good_layer(k, ws[at + 1], ws[at + 2]) {
-            return Checked::Refused { number: 2, place };
+            return Checked::Refused {
+                number: Refusal::BAD_LAYER,
+                place,
+            };
         }
         at += 3;
         misplaced = earliest(misplaced, is_misplaced(k, at == n), place);
@@ -57,7 +63,7 @@ fn first_refusal(ws: &[u64]) -> Checked
         Checked::Good(place)
     } else {
         Checked::Refused {
-            number: 3,
+            number: Refusal::BAD_LEAF,
             place: misplaced,
         }
     }

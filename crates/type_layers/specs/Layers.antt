@@ -5,6 +5,7 @@ use mathlib.Core.List.{List, [], _∷_}
 use Prim.Native.Nat.{ℕ, _%_, _≤_}
 use lib.Dec.{eqb}
 use lib.ListN.{length, drop, getD}
+use Rattle.type_numbers.specs.Limit as limit
 use Rattle.type_numbers.specs.Kind as kind
 
 -- "A layer is three u64 words: kind, name, number."
@@ -26,7 +27,7 @@ layers [] = []
 -- Words that are whole layers, "1 to 16 layers" at most.
 pub record Whole (ws : List ℕ) : Type 0 where
   pub whole : length ws % 3 ≡ 0
-  pub few : length ws ≤ 48
+  pub few : length ws ≤ limit.typeWords
 
 -- The words of a run of layers.
 unfoldable pub spelled : List Layer → List ℕ
@@ -49,7 +50,7 @@ holdsInner k = isArray k || isSlice k || isReference k
 
 -- The outer layer's kind; of no layer 25, which is no kind.
 unfoldable pub outer : List Layer → ℕ
-outer [] = 25
+outer [] = kind.none
 outer (x ∷ a) = x .kind
 
 -- The inner type.

@@ -1,3 +1,4 @@
+use type_numbers::Kind;
 ghost use mathlib.Core.Path.{_≡_};
 ghost use Rattle.type_layers.specs.Layers as rules;
 ghost use Rattle.type_layers.specs.Layers.{layers, innerWords};
@@ -6,7 +7,7 @@ ghost use Rattle.type_layers.specs.Layers.{layers, innerWords};
 pub fn outer(a: &[u64]) -> u64
     ensures { λ r. ⌜ r ≡ rules.outer (layers (now (a .entry))) ⌝ }
 {
-    if a.len() < 3 { 25 } else { a[0] }
+    if a.len() < 3 { Kind::NONE } else { a[0] }
 }
 
 // The inner type: the caller's own words from the next layer on; of no layer no words.

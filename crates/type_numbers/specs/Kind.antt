@@ -75,3 +75,7 @@ pointer = 23
 
 abbrev pub view : ℕ
 view = 24
+
+-- No kind: what stands for the outer kind where there is no layer.
+abbrev pub none : ℕ
+none = 25

@@ -1,2 +1,9 @@
 pub mod Kind
+pub mod StepKind
+pub mod Mark
+pub mod Context
+pub mod State
+pub mod Effect
+pub mod Refusal
+pub mod Limit
 pub mod Words

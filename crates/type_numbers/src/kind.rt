@@ -51,4 +51,7 @@ impl Kind {
     pub const POINTER: u64 = 23;
 
     pub const VIEW: u64 = 24;
+
+    // No kind: what stands for the outer kind where there is no layer.
+    pub const NONE: u64 = 25;
 }

@@ -1,4 +1,18 @@
-// The kinds of layers.
+// The numbers of the rules, by name: kinds, steps and their marks, contexts, states, refusals, limits.
+mod context;
+mod effect;
 mod kind;
+mod limit;
+mod mark;
+mod refusal;
+mod state;
+mod step_kind;
 
+pub use context::Context;
+pub use effect::Effect;
 pub use kind::Kind;
+pub use limit::Limit;
+pub use mark::Mark;
+pub use refusal::Refusal;
+pub use state::State;
+pub use step_kind::StepKind;

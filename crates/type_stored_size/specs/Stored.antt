@@ -3,6 +3,7 @@ use mathlib.Core.Bool.{cond, _||_}
 use mathlib.Core.List.{List, [], _∷_}
 use Prim.Native.Nat.{ℕ, _*_, _-_, _^_}
 use lib.Dec.{eqb, ltb}
+use Rattle.type_numbers.specs.Refusal as refusal
 use Rattle.type_numbers.specs.Kind as kind
 use Rattle.type_layers.specs.Layers.{Layer, layers}
 use Rattle.type_layers.specs.Answer.{Answer, given, nothing, refused, next}
@@ -15,7 +16,7 @@ width = 8
 
 -- "17 stored size over 2^64-1 at any layer measured (the whole, and each measured Array's element)"
 abbrev pub product : ℕ → ℕ → Answer ℕ
-product n m = cond (ltb (2 ^ 64 - 1) (n * m)) (refused 17 0) (given (n * m))
+product n m = cond (ltb (2 ^ 64 - 1) (n * m)) (refused refusal.sizeTooLarge 0) (given (n * m))
 
 -- "Array its length times the element's. "No size" ... for an Array of such, whatever its length."
 abbrev pub times : ℕ → Answer ℕ → Answer ℕ

@@ -1,6 +1,7 @@
 use type_first_refusal::check_type;
 use type_layers::Checked;
 use type_numbers::Kind;
+use type_numbers::Refusal;
 use type_size_and_depth::Size;
 use type_size_and_depth::known_size;
 ghost use mathlib.Core.Path.{_≡_};
@@ -23,7 +24,7 @@ fn product(length: u64, size: u64) -> Size
     }
     if MOST / size < length {
         return Size::Refused {
-            number: 17,
+            number: Refusal::SIZE_TOO_LARGE,
             place: 0,
         };
     }

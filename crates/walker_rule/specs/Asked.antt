@@ -4,7 +4,7 @@ use mathlib.Core.List.{List, []}
 use Prim.Native.Nat.{ℕ}
 use lib.Dec.{eqb}
 use Rattle.symbol_members.specs.Members.{memberIn}
-use Rattle.plan_steps.specs.StepKind as of-step
+use Rattle.type_numbers.specs.StepKind as of-step
 
 -- The words of the member's type where the step is a Member; else none.
 unfoldable pub askedIn : List ℕ → ℕ → List ℕ → ℕ → ℕ → List ℕ

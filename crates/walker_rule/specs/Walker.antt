@@ -6,7 +6,8 @@ use lib.Dec.{eqb}
 use Rattle.type_numbers.specs.Kind as kind
 use Rattle.type_layers.specs.Layers.{Layer, layer, outer, inside, isArray, isReference}
 use Rattle.symbol_members.specs.Stored.{Stored, typed, absent}
-use Rattle.plan_steps.specs.StepKind as of-step
+use Rattle.type_numbers.specs.StepKind as of-step
+use Rattle.type_numbers.specs.Mark as of-mark
 use Rattle.plan_steps.specs.Steps.{Step}
 
 -- Where the walker is: at a type; or it sticks.
@@ -25,7 +26,7 @@ autoview t = cond (eqb (outer t) kind.view) (at (inside t)) stuck
 -- "Autodeslice turns a Slice (mark 0) or SlicePointer (mark 1) into Arraylike"
 abbrev pub autodeslice : ℕ → List Layer → Where
 autodeslice m t =
-    cond (eqb (outer t) kind.slice && eqb m of-step.byView || eqb (outer t) kind.slicePointer && eqb m of-step.byPointer)
+    cond (eqb (outer t) kind.slice && eqb m of-mark.byView || eqb (outer t) kind.slicePointer && eqb m of-mark.byPointer)
     (at (layer kind.arraylike 0 0 ∷ inside t)) stuck
 
 -- "Element goes from 14, 15, 18, 19, or a Pointer to or View of 19, to the element"

@@ -2,6 +2,8 @@
 use mathlib.Core.Bool.{Bool, cond}
 use mathlib.Core.List.{List, [], _∷_}
 use Prim.Native.Nat.{ℕ, _+_}
+use Rattle.type_numbers.specs.Limit as limit
+use Rattle.type_numbers.specs.Refusal as refusal
 use Rattle.type_layers.specs.Layers.{Layer, layers}
 use Rattle.type_layers.specs.Answer.{Answer, given, nothing, refused, next}
 use Rattle.type_checks.specs.Check.{checkOf}
@@ -16,7 +18,7 @@ use Rattle.walker_arrival.specs.Arrived.{addressed}
 -- "8 with the step as place where it sticks": p is the place of the next step.
 abbrev pub unlessStuck : Where → ℕ → (List Layer → Answer (List Layer)) → Answer (List Layer)
 unlessStuck (at t) p f = f t
-unlessStuck stuck p f = refused 8 p
+unlessStuck stuck p f = refused refusal.noStepFits p
 
 unfoldable pub walkedFrom : (ℕ → Stored) → ℕ → List Step → List Layer → Answer (List Layer)
 walkedFrom stored p [] t = given t
@@ -34,9 +36,9 @@ walkFrom known ss address table store =
 
 -- "12 table not in order"
 unfoldable pub walkOrdered : List ℕ → List ℕ → Bool → List Symbol → List ℕ → Answer (List Layer)
-walkOrdered known ss address table store = cond (inOrder table store) (walkFrom known ss address table store) (refused 12 0)
+walkOrdered known ss address table store = cond (inOrder table store) (walkFrom known ss address table store) (refused refusal.tableNotInOrder 0)
 
 -- "Refusals in this order: the known type's 1 to 3, 5 for the steps, 12; 8 ...". "15 for the address", then 14: where it is written (`answerIn`).
 unfoldable pub walkTo : List ℕ → List ℕ → Bool → List Symbol → List ℕ → Answer (List Layer)
 walkTo known ss address table store =
-    next (checkOf known) (next (stepsAnswer 128 ss) (walkOrdered known ss address table store))
+    next (checkOf known) (next (stepsAnswer limit.walked ss) (walkOrdered known ss address table store))

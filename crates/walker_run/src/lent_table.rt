@@ -1,4 +1,5 @@
 use crate::steps_taken::walk_among;
+use symbol_columns::Column;
 use symbol_columns::Symbol;
 use symbol_lent::gather;
 use write_answer::Answer;
@@ -19,7 +20,7 @@ pub fn walk<'a>(
     ensures { λ r. ⌜ (r ≡ flat (answerIn (now (out .entry)) (rules.walkTo (now (known .entry)) (now (steps .entry)) address (now (table .entry)) (now (store .entry)))))
         × (now (out .exit) ≡ bufferIn (now (out .entry)) (rules.walkTo (now (known .entry)) (now (steps .entry)) address (now (table .entry)) (now (store .entry)))) ⌝ }
 {
-    let mut columns = [0u64; 768];
+    let mut columns = [0u64; Column::WORDS];
     gather(table, &mut columns);
     walk_among(&columns, table.len(), known, steps, address, store, out)
 }

@@ -1,9 +1,12 @@
 use plan_steps::check_steps;
+use symbol_columns::Columns;
 use symbol_order::in_order;
 use type_first_refusal::check_type;
 use type_layers::Checked;
 use type_layers::inner;
 use type_layers::outer;
+use type_numbers::Limit;
+use type_numbers::Refusal;
 use walker_arrival::arrive;
 use walker_rule::asked_member;
 use walker_step::go;
@@ -24,12 +27,9 @@ ghost use Rattle.type_layers.specs.Layers.{Whole};
 ghost use Rattle.write_type.specs.Outcome.{answerIn, bufferIn};
 ghost use Rattle.walker_run.specs.Walked as rules;
 
-// The most steps that the walker takes.
-const MOST: u64 = 128;
-
 // Takes the steps, one after the other, and arrives.
 fn take_steps<'a>(
-    columns: &[u64; 768],
+    columns: &Columns,
     n: usize,
     known: &'a [u64],
     steps: &[u64],
@@ -50,7 +50,7 @@ fn take_steps<'a>(
         let l = outer(inner(cur));
         let m = move_of(steps[at], steps[at + 2], k, l, stored.len() >= 3);
         if is_stuck(m) {
-            return refused(8, (at / 4) as u64);
+            return refused(Refusal::NO_STEP_FITS, (at / 4) as u64);
         }
         let next = go(m, cur, stored);
         cur = next;
@@ -62,7 +62,7 @@ fn take_steps<'a>(
 
 // The walk with a table in columns, once the type and the steps are checked.
 fn walk_ordered<'a>(
-    columns: &[u64; 768],
+    columns: &Columns,
     n: usize,
     known: &'a [u64],
     steps: &[u64],
@@ -77,12 +77,12 @@ fn walk_ordered<'a>(
     if in_order(columns, n, store) {
         return take_steps(columns, n, known, steps, address, store, out);
     }
-    refused(12, 0)
+    refused(Refusal::TABLE_NOT_IN_ORDER, 0)
 }
 
 // The walk with a table in columns.
 pub fn walk_among<'a>(
-    columns: &[u64; 768],
+    columns: &Columns,
     n: usize,
     known: &'a [u64],
     steps: &[u64],
@@ -95,7 +95,7 @@ pub fn walk_among<'a>(
 {
     match check_type(known) {
         Checked::Refused { number, place } => refused(number, place),
-        Checked::Good(_) => match check_steps(steps, MOST) {
+        Checked::Good(_) => match check_steps(steps, Limit::WALKED) {
             Checked::Refused { number, place } => refused(number, place),
             Checked::Good(_) => walk_ordered(columns, n, known, steps, address, store, out),
         },

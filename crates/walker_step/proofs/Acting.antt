@@ -11,7 +11,8 @@ use Rattle.type_numbers.specs.Kind as kind
 use Rattle.type_layers.specs.Layers.{Layer, layers, outer, inside, innerWords, isArray, isReference, Whole}
 use Rattle.type_layers.proofs.Words.{inner-layers, inner-whole, none, more}
 use Rattle.type_layers.proofs.Decide.{yes, no}
-use Rattle.plan_steps.specs.StepKind as of-step
+use Rattle.type_numbers.specs.StepKind as of-step
+use Rattle.type_numbers.specs.Mark as of-mark
 use Rattle.plan_steps.specs.Steps.{Step}
 use Rattle.symbol_members.specs.Stored.{Stored}
 use Rattle.walker_rule.specs.Walker.{Where, at, stuck, toStored, element, member, act}
@@ -145,13 +146,13 @@ module _ (ws m : List ℕ) (b : Bool) where
   acts stored s is =
       by-test (eqb (s .kind) 0) _ _ _ _ (λ e. on-element)
       (by-test (eqb (s .kind) 1) _ _ _ _ (λ e. ap (λ (x : Stored). member x t) (is (eqb-true (s .kind) 1 e)) ∙ on-member)
-      (by-test (eqb (s .kind) 2) _ _ _ _ (λ e. by-test (eqb (outer t) kind.slice && eqb (s .mark) of-step.byView || eqb (outer t) kind.slicePointer && eqb (s .mark) of-step.byPointer) _ _ _ _ (λ _. on-deslice) on-stuck)
+      (by-test (eqb (s .kind) 2) _ _ _ _ (λ e. by-test (eqb (outer t) kind.slice && eqb (s .mark) of-mark.byView || eqb (outer t) kind.slicePointer && eqb (s .mark) of-mark.byPointer) _ _ _ _ (λ _. on-deslice) on-stuck)
       (by-test (eqb (s .kind) 3) _ _ _ _ (λ e. by-test (eqb (outer t) kind.pointer) _ _ _ _ (λ _. on-inside) on-stuck)
       (by-test (eqb (s .kind) 4) _ _ _ _ (λ e. by-test (eqb (outer t) kind.view) _ _ _ _ (λ _. on-inside) on-stuck) on-stuck))))
 
 -- only a slice is desliced
 abbrev slices : ℕ → ℕ → Bool
-slices k mark = eqb k kind.slice && eqb mark of-step.byView || eqb k kind.slicePointer && eqb mark of-step.byPointer
+slices k mark = eqb k kind.slice && eqb mark of-mark.byView || eqb k kind.slicePointer && eqb mark of-mark.byPointer
 
 by-outcome : {Q : Type 0} (f : Bool) (x y : Move) → (f ≡ true → x ≡ Deslice → Q) → (y ≡ Deslice → Q) → cond f x y ≡ Deslice → Q
 by-outcome true x y g h e = g refl e

@@ -7,7 +7,8 @@ use lib.Dec.{eqb}
 use lib.ListN.{length}
 use Rattle.type_numbers.specs.Kind as kind
 use Rattle.type_layers.specs.Layers.{Layer, layer, layers, inside, innerWords, isArray, isReference, Whole}
-use Rattle.plan_steps.specs.StepKind as of-step
+use Rattle.type_numbers.specs.StepKind as of-step
+use Rattle.type_numbers.specs.Mark as of-mark
 use Rattle.walker_rule.specs.Walker.{Where, at, stuck}
 use Rattle.walker_step.specs.declared.step_move.Move.{Move}
 use Rattle.walker_step.specs.declared.step_move.Move.the-variants.{Stuck, Inside, TwoInside, Deslice, Member}
@@ -21,7 +22,7 @@ onMember k there = cond ((eqb k kind.struct || eqb k kind.word) && there) Member
 
 abbrev pub onAutodeslice : ℕ → ℕ → Move
 onAutodeslice k mark =
-    cond (eqb k kind.slice && eqb mark of-step.byView || eqb k kind.slicePointer && eqb mark of-step.byPointer) Deslice Stuck
+    cond (eqb k kind.slice && eqb mark of-mark.byView || eqb k kind.slicePointer && eqb mark of-mark.byPointer) Deslice Stuck
 
 abbrev pub takesOff : ℕ → ℕ → Move
 takesOff k wanted = cond (eqb k wanted) Inside Stuck

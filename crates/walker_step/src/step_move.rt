@@ -1,15 +1,11 @@
-use plan_steps::StepKind;
 use type_layers::inner;
 use type_layers::outer;
 use type_numbers::Kind;
+use type_numbers::Mark;
+use type_numbers::StepKind;
 ghost use mathlib.Core.Path.{_≡_};
 ghost use Rattle.type_layers.specs.Layers as layers;
 ghost use Rattle.walker_step.specs.Moves as rules;
-
-// The marks of an Autodeslice.
-const BY_VIEW: u64 = 0;
-
-const BY_POINTER: u64 = 1;
 
 // What a step does.
 pub enum Move {
@@ -54,8 +50,8 @@ fn on_member(k: u64, there: bool) -> Move
 fn on_autodeslice(k: u64, mark: u64) -> Move
     ensures { λ r. ⌜ r ≡ rules.onAutodeslice k mark ⌝ }
 {
-    if ((k == Kind::SLICE) & (mark == BY_VIEW))
-        | ((k == Kind::SLICE_POINTER) & (mark == BY_POINTER))
+    if ((k == Kind::SLICE) & (mark == Mark::BY_VIEW))
+        | ((k == Kind::SLICE_POINTER) & (mark == Mark::BY_POINTER))
     {
         Move::Deslice
     } else {

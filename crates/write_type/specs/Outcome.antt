@@ -4,6 +4,8 @@ use mathlib.Core.List.{List}
 use Prim.Native.Nat.{ℕ}
 use lib.Dec.{ltb}
 use lib.ListN.{length}
+use Rattle.type_numbers.specs.Limit as limit
+use Rattle.type_numbers.specs.Refusal as refusal
 use Rattle.type_layers.specs.Layers.{Layer, spelled}
 use Rattle.type_layers.specs.Answer.{Answer, given, nothing, refused}
 use Rattle.write_words.specs.Written.{written}
@@ -11,8 +13,8 @@ use Rattle.write_words.specs.Written.{written}
 -- "14 output too short for this result; 15 result over 16 layers", in the order "15, 14".
 unfoldable pub delivered : ℕ → Answer (List Layer) → Answer (List Layer)
 delivered room (given a) =
-    cond (ltb 16 (length a)) (refused 15 0)
-    (cond (ltb room (length (spelled a))) (refused 14 0)
+    cond (ltb limit.layers (length a)) (refused refusal.tooManyLayers 0)
+    (cond (ltb room (length (spelled a))) (refused refusal.outputTooShort 0)
     (given a))
 delivered room nothing = nothing
 delivered room (refused n p) = refused n p

@@ -1,13 +1,12 @@
 use type_layers::Checked;
+use type_numbers::Limit;
+use type_numbers::Refusal;
 use write_words::write_words;
 ghost use mathlib.Core.Path.{_≡_};
 ghost use mathlib.Core.List.{_++_};
 ghost use Rattle.type_layers.specs.Layers.{layers, spelled};
 ghost use Rattle.type_layers.specs.Answer.{given, ofChecked};
 ghost use Rattle.write_type.specs.Outcome.{answerIn, bufferIn};
-
-// The most words that a type has.
-const MOST: usize = 48;
 
 // The words of the layers, without one or two that are left over.
 fn whole_layers(ws: &[u64]) -> &[u64]
@@ -25,15 +24,15 @@ pub fn write_type(out: &mut [u64], front: &[u64], rest: &[u64]) -> Checked
     let after = whole_layers(rest);
     let start = first.len();
     let n = start + after.len();
-    if n > MOST {
+    if n > Limit::TYPE_WORDS {
         return Checked::Refused {
-            number: 15,
+            number: Refusal::TOO_MANY_LAYERS,
             place: 0,
         };
     }
     if out.len() < n {
         return Checked::Refused {
-            number: 14,
+            number: Refusal::OUTPUT_TOO_SHORT,
             place: 0,
         };
     }

@@ -1,0 +1,12 @@
+// A context of extern fixing.
+pub struct Context(pub u64);
+
+impl Context {
+    pub const CONST: u64 = 0;
+
+    pub const PARAMETER: u64 = 1;
+
+    pub const RETURNED: u64 = 2;
+
+    pub const MEMBER: u64 = 3;
+}
