@@ -1,87 +1,17 @@
 //! The differential runs: the proved library against the original.
 
-use crate::ask::{answer, Answer, FIXING, QUESTIONS, RELATIONS};
-use crate::face;
+use crate::ask::{FIXING, QUESTIONS};
 use crate::plans;
 use crate::random::Random;
 use crate::records;
+use crate::row::Row;
 use crate::sheet_face;
 use crate::small::*;
 use crate::strings;
+use crate::tally::{Tallies, Tally};
 use crate::types::*;
 use crate::words::{ARRAYLIKE, BOOL, CHAR8, POINTER, UINT8, VIEW};
 use std::thread;
-
-#[derive(Default)]
-struct Tally {
-    cases: u64,
-    yes: u64,
-    refusals: u64,
-    differences: u64,
-    smallest: Option<Difference>,
-}
-
-struct Difference {
-    a: Vec<u64>,
-    b: Vec<u64>,
-    expected: Answer,
-    found: Result<Answer, String>,
-}
-
-struct Tallies(Vec<Tally>);
-
-impl Tallies {
-    fn ask(&mut self, question: usize, a: &[u64], b: &[u64]) {
-        let expected = answer(question, a, b);
-        let found = face::answer(question, a, b);
-        let tally = &mut self.0[question];
-        tally.cases += 1;
-        if expected.refusal != 0 {
-            tally.refusals += 1;
-        } else if expected.value != 0 || !expected.written.is_empty() {
-            tally.yes += 1;
-        }
-        if found.as_ref() != Ok(&expected) {
-            tally.differences += 1;
-            let size = |d: &Difference| d.a.len() + d.b.len();
-            if tally
-                .smallest
-                .as_ref()
-                .map_or(true, |d| a.len() + b.len() < size(d))
-            {
-                tally.smallest = Some(Difference {
-                    a: a.to_vec(),
-                    b: b.to_vec(),
-                    expected,
-                    found,
-                });
-            }
-        }
-    }
-
-    fn ask_one(&mut self, a: &[u64]) {
-        for question in 0..RELATIONS {
-            self.ask(question, a, &[]);
-        }
-    }
-
-    fn ask_two(&mut self, a: &[u64], b: &[u64]) {
-        for question in RELATIONS..FIXING {
-            self.ask(question, a, b);
-        }
-    }
-
-    /// Extern and not, in every context and in two that are none, with outputs of these lengths.
-    fn ask_fixed(&mut self, t: &[u64], rooms: &[u64]) {
-        for external in [0, 1] {
-            for context in [0, 1, 2, 3, 4, u64::MAX] {
-                for room in rooms {
-                    self.ask(FIXING, t, &[external, context, *room]);
-                }
-            }
-        }
-    }
-}
 
 /// How many cases passed and how many failed.
 pub fn compare(scale: u64, seed: u64) -> (u64, u64) {
@@ -105,7 +35,7 @@ pub fn compare(scale: u64, seed: u64) -> (u64, u64) {
 
 /// The questions about types, and extern fixing.
 fn types(scale: u64, seed: u64) -> Tallies {
-    let mut tallies = Tallies((0..QUESTIONS.len()).map(|_| Tally::default()).collect());
+    let mut tallies = Tallies::new();
     small(&mut tallies);
     long(&mut tallies);
     counts(&mut tallies, &mut Random::new(seed));
@@ -256,7 +186,7 @@ fn random_fixing(tallies: &mut Tallies, scale: u64, random: &mut Random) {
     }
 }
 
-fn report(tallies: &[Tally], symbols: &[records::Row]) -> (u64, u64) {
+fn report(tallies: &[Tally], symbols: &[Row]) -> (u64, u64) {
     println!(
         "{:36}{:>10}{:>10}{:>10}{:>12}",
         "", "cases", "yes", "refusals", "differences"

@@ -6,10 +6,10 @@ use crate::blank::blank;
 use crate::lent::Lent;
 use crate::pools::Pool;
 use crate::random::Random;
-use crate::records::{Rows, MOST};
 use crate::small::spoiled_chains;
+use crate::symbol_rows::Rows;
 use crate::symbols::{taken, Asked, Judge, Operation, Symbol, PART};
-use crate::words::check;
+use crate::words::{check, MOST_LAYERS};
 
 const STATES: [u64; 5] = [3, 4, 1 << 32, (1 << 32) + 1, u64::MAX];
 
@@ -43,7 +43,7 @@ pub fn compare(rows: &mut Rows, scale: u64, random: &mut Random) {
             if records > 4 && ![0, 1, 100, records].contains(&taken) {
                 continue;
             }
-            let pool = Pool::new(random, MOST);
+            let pool = Pool::new(random, MOST_LAYERS);
             let (table, store) = pool.table(random, records, taken);
             for (table, store) in spoiled(&table, &store, random, &bad) {
                 ask_all(rows, &pool, &table, &store);
@@ -52,13 +52,13 @@ pub fn compare(rows: &mut Rows, scale: u64, random: &mut Random) {
     }
     for records in [129, 130, 200] {
         for taken in [0, 1, 128, records] {
-            let pool = Pool::new(random, MOST);
+            let pool = Pool::new(random, MOST_LAYERS);
             let (table, store) = pool.table(random, records, taken);
             ask_all(rows, &pool, &table, &store);
         }
     }
     for _ in 0..scale * 100 {
-        let pool = Pool::new(random, MOST);
+        let pool = Pool::new(random, MOST_LAYERS);
         let records = 1 + random.below(128);
         let taken = random.below(records + 1);
         let (table, store) = pool.table(random, records, taken);

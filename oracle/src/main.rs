@@ -17,6 +17,7 @@ mod damage;
 mod disorder;
 #[cfg(face)]
 mod face;
+mod few_types;
 mod journeys;
 #[cfg(face)]
 mod lent;
@@ -24,6 +25,8 @@ mod listed;
 #[cfg(face)]
 mod plan_face;
 mod plan_lines;
+#[cfg(face)]
+mod plan_rows;
 mod planning;
 #[cfg(face)]
 mod plans;
@@ -34,20 +37,29 @@ mod prelude;
 mod random;
 #[cfg(face)]
 mod records;
+#[cfg(face)]
+mod row;
 mod script;
 #[cfg(face)]
 mod sheet_face;
+#[cfg(face)]
+mod sheet_rows;
 mod sheets;
 #[cfg(face)]
 mod small;
 #[cfg(face)]
 mod small_plans;
 mod smoke;
+mod smoke_count;
 mod smoke_plans;
 mod smoke_types;
 #[cfg(face)]
 mod strings;
+#[cfg(face)]
+mod symbol_rows;
 mod symbols;
+#[cfg(face)]
+mod tally;
 mod types;
 mod words;
 

@@ -1,7 +1,6 @@
 //! Sheets: include/trestlejay.h, section Sheets, and the program `pairs`, against document 01 and the
 //! original's relations.
 
-use std::collections::BTreeMap;
 use std::io::Write;
 use std::process::{Command, Stdio};
 use std::thread;
@@ -9,7 +8,8 @@ use std::thread;
 use crate::damage::{any_sheet, each_count, each_edge};
 use crate::face::Raw;
 use crate::random::Random;
-use crate::records::Row;
+use crate::row::Row;
+use crate::sheet_rows::Sheets;
 use crate::sheets::{read, text};
 
 extern "C" {
@@ -43,47 +43,10 @@ pub fn compare(scale: u64, random: &mut Random) -> Vec<Row> {
     }
     let both = [library, run_all(scale, random)];
     for sheets in &both {
-        let told = sheets
-            .numbers
-            .iter()
-            .map(|(n, times)| format!("{n}: {times}"));
-        let told = told.collect::<Vec<_>>().join(", ");
-        println!("refusals of {}: {told}", sheets.row.name);
+        sheets.print();
     }
     println!();
     both.map(|sheets| sheets.row).into()
-}
-
-/// The cases, and how often each number was told.
-struct Sheets {
-    row: Row,
-    numbers: BTreeMap<u64, u64>,
-}
-
-impl Sheets {
-    fn new(name: &str) -> Self {
-        Sheets {
-            row: Row {
-                name: name.into(),
-                ..Row::default()
-            },
-            numbers: BTreeMap::new(),
-        }
-    }
-
-    fn count(&mut self, refusal: u64, differs: bool, first: impl Fn() -> String) {
-        self.row.cases += 1;
-        if refusal == 0 {
-            self.row.changes += 1;
-        } else {
-            self.row.refusals += 1;
-            *self.numbers.entry(refusal).or_default() += 1;
-        }
-        if differs {
-            self.row.differences += 1;
-            self.row.first.get_or_insert_with(first);
-        }
-    }
 }
 
 /// The number that a judgement tells, 0 for none, and what stands beside it.

@@ -5,10 +5,9 @@ use std::fmt::Write;
 
 use crate::prelude::ValueType;
 use crate::value_type::ask;
-use crate::words::{check, decode, Layer, Refusal};
+use crate::words::{check, decode, Layer, Refusal, MOST_LAYERS};
 
-pub const MOST_TYPES: u64 = 32;
-pub const MOST_LAYERS: u64 = 16;
+const MOST_TYPES: u64 = 32;
 
 type Relation = fn(&ValueType, &ValueType) -> bool;
 
@@ -42,7 +41,7 @@ fn bodies(words: &[u64]) -> Option<Vec<&[u64]>> {
     let (counts, mut rest) = rest.split_at(*count as usize);
     let mut all = Vec::new();
     for layers in counts {
-        if !(1..=MOST_LAYERS).contains(layers) || rest.len() < 3 * *layers as usize {
+        if !(1..=MOST_LAYERS as u64).contains(layers) || rest.len() < 3 * *layers as usize {
             return None;
         }
         let (body, behind) = rest.split_at(3 * *layers as usize);

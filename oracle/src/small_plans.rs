@@ -1,8 +1,8 @@
 //! Plans and walks of all small questions: the proved library against the original and document 01.
 
 use crate::blank::blank;
+use crate::plan_rows::Plans;
 use crate::planning::*;
-use crate::plans::Plans;
 use crate::symbols::{Symbol, FREE, PART};
 use crate::types::words;
 use crate::words::*;

@@ -1,35 +1,18 @@
 //! Calls each original function once or more, and looks at answers that document 01 names.
 
 use crate::ask::{answer, QUESTIONS, RELATIONS};
-use crate::prelude::{Identifier, ValueType};
+use crate::few_types::*;
+use crate::prelude::Identifier;
+use crate::smoke_count::Smoke;
 use crate::smoke_plans::plans;
 use crate::smoke_types::every_function;
-use crate::typer::ask::{externalize, fix, update, Record, Table};
+use crate::typer::ask::{externalize, fix, update, Table};
 use crate::value_type::ask;
-use crate::words::{check, decode, encode};
-
-pub struct Smoke {
-    passed: u64,
-    failed: u64,
-}
-
-impl Smoke {
-    pub fn same<T: PartialEq + std::fmt::Debug>(&mut self, what: &str, found: T, expected: T) {
-        if found == expected {
-            self.passed += 1;
-        } else {
-            self.failed += 1;
-            println!("{what}: {found:?}, not {expected:?}");
-        }
-    }
-}
+use crate::words::{check, encode};
 
 /// How many looks passed and how many failed.
 pub fn smoke() -> (u64, u64) {
-    let mut smoke = Smoke {
-        passed: 0,
-        failed: 0,
-    };
+    let mut smoke = Smoke::default();
     types(&mut smoke);
     every_function(&mut smoke);
     relations(&mut smoke);
@@ -37,31 +20,6 @@ pub fn smoke() -> (u64, u64) {
     externs(&mut smoke);
     plans(&mut smoke);
     (smoke.passed, smoke.failed)
-}
-
-pub fn of(words: &[u64]) -> ValueType {
-    decode(&check(words).expect("good words"))
-}
-
-pub const INT32: [u64; 3] = [3, 0, 0];
-pub const UINT8: [u64; 3] = [6, 0, 0];
-pub const CHAR8: [u64; 3] = [12, 0, 0];
-
-pub fn int32() -> ValueType {
-    of(&INT32)
-}
-
-/// One layer of this kind, without name and number, around a type.
-pub fn in_layer(kind: u64, inner: &ValueType) -> ValueType {
-    of(&[vec![kind, 0, 0], encode(inner)].concat())
-}
-
-pub fn pointer(inner: &ValueType) -> ValueType {
-    in_layer(23, inner)
-}
-
-pub fn view(inner: &ValueType) -> ValueType {
-    in_layer(24, inner)
 }
 
 fn types(smoke: &mut Smoke) {
@@ -200,15 +158,6 @@ fn relations(smoke: &mut Smoke) {
         ask::is_wellformed_element(&in_layer(18, &char8)),
         false,
     );
-}
-
-pub fn record(id: u32, authority: bool, stored: Result<ValueType, u64>) -> Record {
-    Record {
-        id,
-        authority,
-        place: 10,
-        stored,
-    }
 }
 
 fn symbols(smoke: &mut Smoke) {

@@ -1,7 +1,8 @@
 //! The looks at plans.
 
+use crate::few_types::*;
 use crate::prelude::ValueType;
-use crate::smoke::{in_layer, int32, of, pointer, record, view, Smoke, CHAR8, INT32};
+use crate::smoke_count::Smoke;
 use crate::typer::ask::{plan, Plan, Step};
 
 const ELEMENT: Step = [0, 7, 0, 0];

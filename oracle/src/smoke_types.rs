@@ -1,8 +1,9 @@
 //! A look at every function of value_type.rs. Which functions there are is read off its text, so one that
 //! is not called here is told.
 
+use crate::few_types::*;
 use crate::prelude::ValueType;
-use crate::smoke::{in_layer, int32, of, pointer, view, Smoke, CHAR8, INT32, UINT8};
+use crate::smoke_count::Smoke;
 use crate::value_type::ask;
 
 const TEXT: &str = include_str!("../penne/value_type.rs");

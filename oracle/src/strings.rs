@@ -4,14 +4,11 @@ use crate::ask::Answer;
 use crate::face::{string_literal, string_slice};
 use crate::prelude::ValueType;
 use crate::random::Random;
-use crate::records::Row;
+use crate::row::Row;
 use crate::words::encode;
 
 pub fn compare(scale: u64, random: &mut Random) -> Vec<Row> {
-    let mut rows = ["for_string_literal", "for_string_slice"].map(|name| Row {
-        name: name.into(),
-        ..Row::default()
-    });
+    let mut rows = ["for_string_literal", "for_string_slice"].map(Row::new);
     for room in 0..=51 {
         for length in lengths() {
             literal(&mut rows[0], length, room);
@@ -59,26 +56,19 @@ fn count(
     asked: impl Fn() -> String,
 ) {
     let words = encode(made);
-    let expected = if words.len() > room {
-        row.refusals += 1;
-        Answer {
-            refusal: 14,
-            value: 0,
-            written: Vec::new(),
-        }
-    } else {
-        row.changes += 1;
-        Answer {
-            refusal: 0,
-            value: words.len() as u64,
-            written: words,
-        }
+    let (refusal, words) = match words.len() > room {
+        true => (14, Vec::new()),
+        false => (0, words),
     };
-    row.cases += 1;
+    let expected = Answer {
+        refusal,
+        value: words.len() as u64,
+        written: words,
+    };
+    row.count(refusal, true);
     if found.as_ref() != Ok(&expected) {
-        row.differences += 1;
         let asked = asked();
-        row.first.get_or_insert_with(|| {
+        row.differs(|| {
             format!(
                 "  asked     {asked} room {room}\n  the Rust  {expected:?}\n  ours      {found:?}"
             )

@@ -33,6 +33,9 @@ pub const OUTERS: [u64; 8] = [
 
 pub type Layer = [u64; 3];
 
+/// The most layers of a type.
+pub const MOST_LAYERS: usize = 16;
+
 /// A document's number and place.
 pub type Refusal = (u64, u64);
 
@@ -55,7 +58,7 @@ pub fn is_good(layer: &Layer) -> bool {
 
 /// Checks 1, 2 and 3: the layers, or the first refusal.
 pub fn check(words: &[u64]) -> Result<Vec<Layer>, Refusal> {
-    if words.is_empty() || words.len() > 48 || words.len() % 3 != 0 {
+    if words.is_empty() || words.len() > 3 * MOST_LAYERS || words.len() % 3 != 0 {
         return Err((1, 0));
     }
     let layers: Vec<Layer> = words.chunks(3).map(|w| [w[0], w[1], w[2]]).collect();
