@@ -1,68 +1,19 @@
 //! The original Rust as the judge of the proved library.
 
-include!(concat!(env!("OUT_DIR"), "/penne.rs"));
-
-mod answers;
-mod ask;
 #[cfg(face)]
 mod bench;
-mod blank;
-mod cases;
-mod caught;
 #[cfg(face)]
 mod compare;
 #[cfg(face)]
-mod damage;
-#[cfg(face)]
-mod disorder;
-#[cfg(face)]
 mod face;
-mod few_types;
-mod journeys;
-#[cfg(face)]
-mod lent;
-mod listed;
-#[cfg(face)]
-mod plan_face;
-mod plan_lines;
-#[cfg(face)]
-mod plan_rows;
-mod planning;
-#[cfg(face)]
-mod plans;
-mod pools;
-// Its fields are there for the original's text to fill in.
-#[allow(dead_code)]
-mod prelude;
-mod random;
-#[cfg(face)]
-mod records;
-#[cfg(face)]
-mod row;
-mod script;
-#[cfg(face)]
-mod sheet_face;
-#[cfg(face)]
-mod sheet_rows;
-mod sheets;
-#[cfg(face)]
-mod small;
-#[cfg(face)]
-mod small_plans;
+mod inputs;
+mod judge;
+mod lines;
+mod original;
 mod smoke;
-mod smoke_count;
-mod smoke_plans;
-mod smoke_types;
-#[cfg(face)]
-mod strings;
-#[cfg(face)]
-mod symbol_rows;
-mod symbols;
-#[cfg(face)]
-mod tally;
-mod types;
-mod words;
 
+use judge::sheets;
+use lines::{answers, cases, plan_lines, script};
 use std::env;
 use std::io::Write;
 use std::process::exit;

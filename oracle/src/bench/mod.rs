@@ -8,7 +8,7 @@ mod plans;
 mod records;
 mod types;
 
-use crate::random::Random;
+use crate::inputs::random::Random;
 use measure::{measure, Length, Measured, Row};
 use std::time::Duration;
 

@@ -2,13 +2,13 @@
 
 use super::measure::{kept, renewed, Row, Side};
 use super::types::{beside, formed, Type};
-use crate::lent::{tj_get_symbol, tj_put_type, tj_update_symbol};
-use crate::prelude::Identifier;
-use crate::random::Random;
-use crate::symbols::{record, update_alone, Symbol, PART};
-use crate::typer::ask::{Record, Table};
-use crate::typer::timed::{self, Lone};
-use crate::words::*;
+use crate::face::symbol_face::{tj_get_symbol, tj_put_type, tj_update_symbol};
+use crate::inputs::random::Random;
+use crate::judge::symbols::{record, update_alone, Symbol, PART};
+use crate::original::prelude::Identifier;
+use crate::original::typer::ask::{Record, Table};
+use crate::original::typer::timed::{self, Lone};
+use crate::original::words::*;
 use std::hint::black_box;
 
 const CALLS: usize = 64;
