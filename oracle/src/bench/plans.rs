@@ -6,7 +6,7 @@ use crate::face::plan_face::{tj_autoderef, RawPlan};
 use crate::inputs::journeys::{fitting, leading, target};
 use crate::inputs::random::Random;
 use crate::judge::planning::{judge_plan, Asked, Members};
-use crate::judge::symbols::{record, Symbol, PART};
+use crate::judge::table::{record, Symbol, PART};
 use crate::original::prelude::{
     set_rounds, Expression, Poison, Reference, ReferenceStep, ValueType,
 };

@@ -1,7 +1,8 @@
 //! Types to ask about, in words and as the original has them.
 
 use crate::inputs::random::Random;
-use crate::inputs::types::{coerced, good_type, likened, relative, words};
+use crate::inputs::relatives::{coerced, likened, relative};
+use crate::inputs::types::{good_type, words};
 use crate::original::prelude::ValueType;
 use crate::original::words::*;
 

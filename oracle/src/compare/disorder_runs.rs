@@ -8,7 +8,8 @@ use crate::inputs::pools::Pool;
 use crate::inputs::random::Random;
 use crate::inputs::small_types::spoiled_chains;
 use crate::judge::blank::blank;
-use crate::judge::symbols::{taken, Asked, Judge, Operation, Symbol, PART};
+use crate::judge::symbols::{Asked, Judge, Operation};
+use crate::judge::table::{taken, Symbol, PART};
 use crate::original::words::{check, MOST_LAYERS};
 
 const STATES: [u64; 5] = [3, 4, 1 << 32, (1 << 32) + 1, u64::MAX];

@@ -4,7 +4,7 @@ use super::plan_rows::Plans;
 use crate::inputs::types::words;
 use crate::judge::blank::blank;
 use crate::judge::planning::*;
-use crate::judge::symbols::{Symbol, FREE, PART};
+use crate::judge::table::{Symbol, FREE, PART};
 use crate::original::words::*;
 
 pub fn compare(plans: &mut Plans) {

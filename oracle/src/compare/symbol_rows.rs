@@ -2,7 +2,8 @@
 
 use super::row::Row;
 use crate::face::symbol_face::Lent;
-use crate::judge::symbols::{update_alone, Asked, Judge, Symbol, Told};
+use crate::judge::symbols::{update_alone, Asked, Judge, Told};
+use crate::judge::table::Symbol;
 
 const NAMES: [&str; 7] = [
     "update_symbol",

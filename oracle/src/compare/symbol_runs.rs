@@ -7,8 +7,9 @@ use super::symbol_rows::Rows;
 use crate::face::symbol_face::Lent;
 use crate::inputs::pools::{lone_symbol, Pool};
 use crate::inputs::random::Random;
+use crate::inputs::relatives::pair;
 use crate::inputs::small_types::{small_types, types_of_three};
-use crate::inputs::types::{damaged, pair, words};
+use crate::inputs::types::{damaged, words};
 use crate::judge::symbols::{Asked, Judge, Operation};
 use crate::original::words::MOST_LAYERS;
 

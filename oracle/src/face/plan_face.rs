@@ -4,7 +4,7 @@
 use super::type_face::{Raw, GUARD};
 use crate::judge::blank::blank;
 use crate::judge::planning::{Asked, Members, Told};
-use crate::judge::symbols::{Symbol, FREE};
+use crate::judge::table::{Symbol, FREE};
 
 /// include/trestlejay.h, tj_plan.
 #[repr(C)]

@@ -3,7 +3,8 @@
 
 use super::type_face::{Raw, GUARD};
 use crate::judge::blank::KEPT;
-use crate::judge::symbols::{Asked, Operation, Symbol, Told};
+use crate::judge::symbols::{Asked, Operation, Told};
+use crate::judge::table::Symbol;
 
 extern "C" {
     pub fn tj_update_symbol(

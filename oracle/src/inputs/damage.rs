@@ -1,7 +1,8 @@
 //! Sheets to ask about, as bytes: whole ones, and damaged ones of every sort.
 
 use super::random::Random;
-use super::types::{coerced, good_type, likened, relative, words};
+use super::relatives::{coerced, likened, relative};
+use super::types::{good_type, words};
 use crate::original::words::{Layer, BOOL, POINTER, VIEW};
 
 const BIG: u64 = u64::MAX;

@@ -2,10 +2,11 @@
 //! and asked steps that mostly fit where the walk is.
 
 use super::random::Random;
-use super::types::{coerced, damaged, good_type, relative, words};
+use super::relatives::{coerced, relative};
+use super::types::{damaged, good_type, words};
 use crate::judge::blank::{blank, KEPT};
 use crate::judge::planning::*;
-use crate::judge::symbols::{taken, Symbol, FREE, PART};
+use crate::judge::table::{taken, Symbol, FREE, PART};
 use crate::original::words::*;
 
 pub struct Journey {

@@ -5,6 +5,7 @@ pub mod damage;
 pub mod journeys;
 pub mod pools;
 pub mod random;
+pub mod relatives;
 #[cfg(face)]
 pub mod small_types;
 pub mod types;

@@ -1,9 +1,11 @@
 //! Random symbols: a lone one, and tables with the operations on them.
 
 use super::random::Random;
-use super::types::{coerced, damaged, good_type, likened, relative, words};
+use super::relatives::{coerced, likened, relative};
+use super::types::{damaged, good_type, words};
 use crate::judge::blank::blank;
-use crate::judge::symbols::{Asked, Operation, Symbol, FREE, PART};
+use crate::judge::symbols::{Asked, Operation};
+use crate::judge::table::{Symbol, FREE, PART};
 use crate::original::words::{decode, Layer, ARRAY, ARRAYLIKE, NAMED, SLICE};
 
 /// A symbol with the id 1, typed or poisoned, with its 48 words.

@@ -5,3 +5,4 @@ pub mod planning;
 pub mod questions;
 pub mod sheets;
 pub mod symbols;
+pub mod table;

@@ -3,7 +3,7 @@
 //! types, the room of the outputs, and the plain walker.
 
 use super::blank::blank;
-use super::symbols::{in_order, record, taken, Symbol, PART};
+use super::table::{in_order, record, taken, Symbol, PART};
 use crate::original::typer::ask::{plan, Plan, Record, Step};
 use crate::original::words::*;
 

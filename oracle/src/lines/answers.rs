@@ -1,7 +1,10 @@
 //! The fixed list of the original's answers, for replay without Rust. README.md has the format.
 
 use super::listed::*;
+use super::listed_plans::{plan, walk};
+use super::listed_symbols::{update, Played};
 use crate::inputs::random::Random;
+use crate::inputs::relatives::pair;
 use crate::inputs::types::*;
 use crate::judge::questions::{answer, Answer, FIXING, QUESTIONS, RELATIONS};
 use std::collections::HashMap;

@@ -3,5 +3,7 @@
 pub mod answers;
 pub mod cases;
 mod listed;
+mod listed_plans;
+mod listed_symbols;
 pub mod plan_lines;
 pub mod script;

@@ -2,7 +2,7 @@
 
 use crate::inputs::types::words;
 use crate::judge::planning::*;
-use crate::judge::symbols::{Symbol, FREE, PART};
+use crate::judge::table::{Symbol, FREE, PART};
 use crate::original::words::*;
 use std::fmt::Write;
 

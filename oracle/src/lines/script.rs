@@ -1,6 +1,7 @@
 //! The script examples/symbols.inc, answered by the original in the lines of examples/symbols.c.
 
-use crate::judge::symbols::{update_alone, Asked, Judge, Operation, Symbol, Told, FREE, PART};
+use crate::judge::symbols::{update_alone, Asked, Judge, Operation, Told};
+use crate::judge::table::{Symbol, FREE, PART};
 use std::collections::HashMap;
 use std::fmt::Write;
 
