@@ -12,7 +12,7 @@ extern "C" {
 const GUARD: u8 = 0xa5;
 
 /// The program's runner.
-const RUN: &str = concat!(env!("CARGO_MANIFEST_DIR"), "/../run");
+const RUN: &str = concat!(env!("CARGO_MANIFEST_DIR"), "/../tools/run");
 
 /// The library's answer about bytes that are lent from such a place on, and whether all are kept.
 pub fn read(bytes: &[u8], start: usize) -> ((u64, u64), bool) {

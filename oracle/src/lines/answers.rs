@@ -13,7 +13,7 @@ use std::collections::HashMap;
 /// yes, no and refused come about equally often.
 const TRIES: usize = 20;
 
-/// What `replay` has room for: the most numbers of a line.
+/// What `test_replay` has room for: the most numbers of a line.
 const ROOM: usize = 1024;
 
 /// What a turn asks after one question of each number about types: operations on one table, each about
@@ -151,7 +151,7 @@ fn text(question: usize, given: &Answer, runs: &[Vec<u64>], rest: &[u64]) -> Str
     line.extend(rest);
     assert!(
         line.len() <= ROOM,
-        "more numbers than `replay` has room for"
+        "more numbers than `test_replay` has room for"
     );
     let line: Vec<String> = line.iter().map(u64::to_string).collect();
     line.join(" ") + "\n"

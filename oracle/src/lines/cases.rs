@@ -1,4 +1,4 @@
-//! The lines of the program `cases`, as the original answers them: the same words in the same order.
+//! The lines of the program `test_cases`, as the original answers them: the same words in the same order.
 
 use crate::judge::questions::{answer, Answer, Question, FIXING, QUESTIONS, RELATIONS};
 use std::fmt::Write;

@@ -17,7 +17,7 @@ pub const GET: usize = 39;
 pub const AUTODEREF: usize = 40;
 pub const WALK: usize = 41;
 
-/// What `replay` has room for: records of a table, and words of a store.
+/// What `test_replay` has room for: records of a table, and words of a store.
 pub const MOST_RECORDS: usize = 8;
 const MOST_STORED: usize = PART * MOST_RECORDS + PART;
 

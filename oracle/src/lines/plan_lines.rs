@@ -1,4 +1,4 @@
-//! The lines of the program `plans`, as the original plans them: the same questions in the same order.
+//! The lines of the program `test_plans`, as the original plans them: the same questions in the same order.
 
 use crate::inputs::types::words;
 use crate::judge::planning::*;
