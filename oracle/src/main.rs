@@ -19,8 +19,9 @@ use std::ffi::OsString;
 use std::io::Write;
 use std::process::exit;
 
-const USAGE: &str =
-    "usage: oracle smoke | oracle cases | oracle plans | oracle script FILE | oracle pairs FILE | oracle answers COUNT SEED | oracle compare SCALE SEED | oracle bench [quick]";
+const USAGE: &str = "usage: oracle smoke | oracle cases | oracle plans | oracle script FILE | \
+                     oracle pairs FILE | oracle answers COUNT SEED | oracle compare SCALE SEED | \
+                     oracle bench [quick]";
 
 /// The most that SCALE may be: what it multiplies must not wrap.
 const MOST_SCALE: u64 = 1_000_000;

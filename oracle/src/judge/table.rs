@@ -1,4 +1,4 @@
-//! A symbol table with its store: what it is in order, by document 01, and the original's records of it.
+//! A symbol table with its store: when it is in order, by document 01, and the original's records of it.
 
 use crate::original::prelude::ValueType;
 use crate::original::typer::ask::Record;

@@ -20,18 +20,30 @@ fn made(steps: &[Step], taken: usize, reported: &ValueType) -> Result<Plan, u64>
     })
 }
 
+fn go(
+    known: &ValueType,
+    asked: &[Step],
+    target: &ValueType,
+    depth: u8,
+    rounds: usize,
+) -> Result<Plan, u64> {
+    plan(known, asked, target, depth, rounds, &[])
+}
+
 pub fn plans(smoke: &mut Smoke) {
+    settled(smoke);
+    members(smoke);
+    rounds(smoke);
+    agreed(smoke);
+}
+
+fn settled(smoke: &mut Smoke) {
     let int = int32();
     let char8 = of(&CHAR8);
     let slice = in_layer(16, &char8);
     let array = of(&[[14, 0, 3], INT32].concat());
-    let structure = of(&[20, 1, 0]);
     let slice_pointer = in_layer(17, &int);
     let endless = pointer(&in_layer(18, &int));
-
-    let go = |known: &ValueType, asked: &[Step], target: &ValueType, depth, rounds| {
-        plan(known, asked, target, depth, rounds, &[])
-    };
     smoke.same(
         "a view",
         go(&view(&int), &[], &int, 0, 64),
@@ -74,6 +86,10 @@ pub fn plans(smoke: &mut Smoke) {
         go(&int, &[AUTODEREF], &int, 0, 64),
         Err(8),
     );
+}
+
+fn members(smoke: &mut Smoke) {
+    let (int, structure) = (int32(), of(&[20, 1, 0]));
     smoke.same(
         "member absent",
         go(&structure, &[MEMBER], &int, 0, 64),
@@ -96,8 +112,11 @@ pub fn plans(smoke: &mut Smoke) {
         plan(&structure, &[MEMBER], &int, 0, 0, &member),
         made(&[], 0, &structure),
     );
+}
 
-    // docs/DIFFERENCES.md: the number of rounds, and where both agree.
+/// docs/DIFFERENCES.md: the number of rounds.
+fn rounds(smoke: &mut Smoke) {
+    let structure = of(&[20, 1, 0]);
     let deep = (0..15).fold(structure.clone(), |inner, _| pointer(&inner));
     let member = [record(2, true, Ok(deep.clone()))];
     let taken = |members: usize, rounds| {
@@ -108,6 +127,11 @@ pub fn plans(smoke: &mut Smoke) {
     smoke.same("five members, 64 rounds", taken(5, 64), Ok(4));
     smoke.same("five members, 254 rounds", taken(5, 254), Ok(5));
     smoke.same("sixteen members, 254 rounds", taken(16, 254), Ok(15));
+}
+
+/// docs/DIFFERENCES.md: where both agree.
+fn agreed(smoke: &mut Smoke) {
+    let (int, slice_pointer) = (int32(), in_layer(17, &int32()));
     smoke.same(
         "a view of a pointer",
         go(&view(&pointer(&int)), &[], &pointer(&int), 0, 64),
