@@ -3,7 +3,7 @@
 //! value_type.rs is taken whole. The listed items are cut out of typer.rs by their first line, up to
 //! their matching brace. Nothing of either is edited, with one exception: in `autoderef` the token
 //! MAX_NUM_AUTODEREF_STEPS, whose value the rules make an argument, becomes the call
-//! `crate::prelude::rounds()`.
+//! `crate::original::prelude::rounds()`.
 
 use std::fmt::Write;
 use std::path::Path;
@@ -59,7 +59,7 @@ const CUTS: [(&str, &[&str]); 4] = [
 ];
 
 const LIMIT: &str = "MAX_NUM_AUTODEREF_STEPS";
-const GETTER: &str = "crate::prelude::rounds()";
+const GETTER: &str = "crate::original::prelude::rounds()";
 
 fn main() {
     let home = env::var("CARGO_MANIFEST_DIR").unwrap();
@@ -77,7 +77,7 @@ fn main() {
     println!("cargo:rerun-if-changed=build.rs");
 
     // The wrappers stand in a child module, since private items are visible there.
-    let inside = |name: &str| format!("{home}/src/inside/{name}.rs");
+    let inside = |name: &str| format!("{home}/src/original/inside/{name}.rs");
     let value_type = fs::read_to_string(penne.join("value_type.rs")).unwrap();
     let typer = cut_all(&fs::read_to_string(penne.join("typer.rs")).unwrap());
     let text = format!(
@@ -85,7 +85,7 @@ fn main() {
          pub mod value_type {{\n{value_type}\n\
          #[path = {:?}] pub mod ask;\n}}\n\
          #[allow(dead_code, unused, clippy::all)]\n\
-         pub mod typer {{\nuse crate::prelude::*;\n{typer}\n\
+         pub mod typer {{\nuse crate::original::prelude::*;\n{typer}\n\
          #[path = {:?}] pub mod ask;\n\
          #[path = {:?}] pub mod timed;\n}}\n",
         inside("value_type"),

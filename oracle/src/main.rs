@@ -1,69 +1,38 @@
 //! The original Rust as the judge of the proved library.
 
-include!(concat!(env!("OUT_DIR"), "/penne.rs"));
-
-mod answers;
-mod ask;
 #[cfg(face)]
 mod bench;
-mod blank;
-mod cases;
-mod caught;
 #[cfg(face)]
 mod compare;
 #[cfg(face)]
-mod damage;
-#[cfg(face)]
-mod disorder;
-#[cfg(face)]
 mod face;
-mod journeys;
-#[cfg(face)]
-mod lent;
-mod listed;
-#[cfg(face)]
-mod plan_face;
-mod plan_lines;
-mod planning;
-#[cfg(face)]
-mod plans;
-mod pools;
-// Its fields are there for the original's text to fill in.
-#[allow(dead_code)]
-mod prelude;
-mod random;
-#[cfg(face)]
-mod records;
-mod script;
-#[cfg(face)]
-mod sheet_face;
-mod sheets;
-#[cfg(face)]
-mod small;
-#[cfg(face)]
-mod small_plans;
+mod inputs;
+mod judge;
+mod lines;
+mod original;
 mod smoke;
-mod smoke_plans;
-mod smoke_types;
-#[cfg(face)]
-mod strings;
-mod symbols;
-mod types;
-mod words;
 
+use judge::sheets;
+use lines::{answers, cases, plan_lines, script};
 use std::env;
+use std::ffi::OsString;
 use std::io::Write;
 use std::process::exit;
 
-const USAGE: &str =
-    "oracle smoke | oracle cases | oracle plans | oracle script FILE | oracle pairs FILE | oracle answers COUNT SEED | oracle compare SCALE SEED | oracle bench [quick]";
+const USAGE: &str = "usage: oracle smoke | oracle cases | oracle plans | oracle script FILE | \
+                     oracle pairs FILE | oracle answers COUNT SEED | oracle compare SCALE SEED | \
+                     oracle bench [quick]";
+
+/// The most that SCALE may be: what it multiplies must not wrap.
+const MOST_SCALE: u64 = 1_000_000;
 
 #[cfg(not(face))]
 const WITHOUT: &str =
     "this oracle was built without the library: set TRESTLEJAY_LIB and build again";
 
 fn main() {
-    let words: Vec<String> = env::args().skip(1).collect();
+    let words: Result<Vec<String>, _> = env::args_os().skip(1).map(OsString::into_string).collect();
+    let words = words.unwrap_or_else(|_| fail(USAGE));
     let words: Vec<&str> = words.iter().map(String::as_str).collect();
     match words[..] {
         ["smoke"] => verdict(smoke::smoke()),
@@ -80,7 +49,7 @@ fn main() {
         ["answers", count, seed] => {
             write(&answers::answers(number(count) as usize, number(seed)));
         }
-        ["compare", scale, seed] => run(number(scale), number(seed)),
+        ["compare", word, seed] => run(scale(word), number(seed)),
         ["bench"] => bench(false),
         ["bench", "quick"] => bench(true),
         _ => fail(USAGE),
@@ -121,7 +90,14 @@ fn number(word: &str) -> u64 {
         .unwrap_or_else(|_| fail(&format!("not a number: {word}")))
 }
 
+fn scale(word: &str) -> u64 {
+    match number(word) {
+        scale if scale <= MOST_SCALE => scale,
+        _ => fail(&format!("SCALE is at most {MOST_SCALE}, not {word}")),
+    }
+}
+
 fn fail(words: &str) -> ! {
     eprintln!("oracle: {words}");
-    exit(2);
+    exit(1);
 }

@@ -2,12 +2,12 @@
 
 use super::measure::{kept, renewed, Row};
 use super::types::Type;
-use crate::face::tj_fix_type_for_flags;
-use crate::prelude::{DeclarationFlag, EnumSet, Location};
-use crate::random::Random;
-use crate::typer::ask::fix;
-use crate::typer::timed::{self, Declared};
-use crate::types::extern_type;
+use crate::face::type_face::tj_fix_type_for_flags;
+use crate::inputs::random::Random;
+use crate::inputs::types::extern_type;
+use crate::original::prelude::{DeclarationFlag, EnumSet, Location};
+use crate::original::typer::ask::fix;
+use crate::original::typer::timed::{self, Declared};
 
 const CALLS: usize = 64;
 

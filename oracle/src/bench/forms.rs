@@ -2,11 +2,11 @@
 
 use super::measure::{repeated, Row};
 use super::types::{count, Type};
-use crate::face::{tj_is_wellformed, Raw};
-use crate::prelude::ValueType;
-use crate::random::Random;
-use crate::types::good_type;
-use crate::words::decode;
+use crate::face::type_face::{tj_is_wellformed, Raw};
+use crate::inputs::random::Random;
+use crate::inputs::types::good_type;
+use crate::original::prelude::ValueType;
+use crate::original::words::decode;
 use std::hint::black_box;
 
 type Ours = unsafe extern "C" fn(*const u64, usize) -> Raw;

@@ -1,4 +1,4 @@
-//! The proved library and the original, timed on the same questions in one process: `./bench`.
+//! The proved library and the original, timed on the same questions in one process: `tools/bench`.
 
 mod fixing;
 mod forms;
@@ -7,8 +7,9 @@ mod pairs;
 mod plans;
 mod records;
 mod types;
+mod updates;
 
-use crate::random::Random;
+use crate::inputs::random::Random;
 use measure::{measure, Length, Measured, Row};
 use std::time::Duration;
 
@@ -40,6 +41,7 @@ pub fn bench(quick: bool) {
     };
     pairs::rows(random, &mut show);
     forms::rows(random, &mut show);
+    updates::rows(random, &mut show);
     records::rows(random, &mut show);
     fixing::rows(random, &mut show);
     plans::rows(random, &mut show);

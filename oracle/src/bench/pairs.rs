@@ -3,11 +3,11 @@
 
 use super::measure::{repeated, Row};
 use super::types::{beside, count, formed, Type};
-use crate::face::*;
-use crate::prelude::ValueType;
-use crate::random::Random;
-use crate::value_type::ask;
-use crate::words::*;
+use crate::face::type_face::*;
+use crate::inputs::random::Random;
+use crate::original::prelude::ValueType;
+use crate::original::value_type::ask;
+use crate::original::words::*;
 use std::hint::black_box;
 
 type Ours = unsafe extern "C" fn(*const u64, usize, *const u64, usize) -> Raw;

@@ -2,15 +2,17 @@
 
 use super::measure::{kept, renewed, Row, Spent};
 use super::types::{count, Type};
-use crate::journeys::{fitting, leading, target};
-use crate::plan_face::{tj_autoderef, RawPlan};
-use crate::planning::{judge_plan, Asked, Members};
-use crate::prelude::{set_rounds, Expression, Poison, Reference, ReferenceStep, ValueType};
-use crate::random::Random;
-use crate::symbols::{record, Symbol, PART};
-use crate::typer::ask::{Record, Step, Table};
-use crate::typer::timed;
-use crate::words::*;
+use crate::face::plan_face::{tj_autoderef, RawPlan};
+use crate::inputs::journeys::{fitting, leading, target};
+use crate::inputs::random::Random;
+use crate::judge::planning::{judge_plan, Asked, Members};
+use crate::judge::table::{record, Symbol, PART};
+use crate::original::prelude::{
+    set_rounds, Expression, Poison, Reference, ReferenceStep, ValueType,
+};
+use crate::original::typer::ask::{Record, Step, Table};
+use crate::original::typer::timed;
+use crate::original::words::*;
 
 const CALLS: usize = 32;
 const ROUNDS: u64 = 64;

@@ -1,9 +1,10 @@
 //! Types to ask about, in words and as the original has them.
 
-use crate::prelude::ValueType;
-use crate::random::Random;
-use crate::types::{coerced, good_type, likened, relative, words};
-use crate::words::*;
+use crate::inputs::random::Random;
+use crate::inputs::relatives::{coerced, likened, relative};
+use crate::inputs::types::{good_type, words};
+use crate::original::prelude::ValueType;
+use crate::original::words::*;
 
 pub struct Type {
     pub words: Vec<u64>,

@@ -1,0 +1,103 @@
+//! The looks at words and at answers about types.
+
+use super::count::Smoke;
+use super::few_types::*;
+use crate::judge::questions::{answer, QUESTIONS};
+use crate::original::words::{check, encode};
+
+pub fn words(smoke: &mut Smoke) {
+    for kind in 0..25 {
+        let named = [15, 20, 21, 22].contains(&kind) as u64 * 7;
+        let number = match kind {
+            14 | 21 => 3,
+            22 => 1,
+            _ => 0,
+        };
+        let leaf = kind < 14 || (20..23).contains(&kind);
+        let mut words = vec![kind, named, number];
+        if !leaf {
+            words.extend(INT32);
+        }
+        smoke.same("words of a kind", encode(&of(&words)), words);
+    }
+    smoke.same("no words", check(&[]), Err((1, 0)));
+    smoke.same("four words", check(&[6, 0, 0, 0]), Err((1, 0)));
+    smoke.same("17 layers", check(&[23, 0, 0].repeat(17)), Err((1, 0)));
+    smoke.same("kind 25", check(&[23, 0, 0, 25, 0, 0]), Err((2, 1)));
+    smoke.same("2 before 3", check(&[6, 0, 0, 6, 0, 1]), Err((2, 1)));
+    smoke.same(
+        "leaf early",
+        check(&[23, 0, 0, 6, 0, 0, 23, 0, 0]),
+        Err((3, 1)),
+    );
+    smoke.same("leaf missing", check(&[23, 0, 0, 24, 0, 0]), Err((3, 1)));
+}
+
+pub fn types(smoke: &mut Smoke) {
+    let ask_of = |name: &str, words: &[u64]| {
+        let question = QUESTIONS.iter().position(|(n, _)| *n == name).unwrap();
+        let given = answer(question, words, &[]);
+        (given.refusal, given.value, given.written)
+    };
+    smoke.same(
+        "check",
+        ask_of("check", &[23, 0, 0, 6, 0, 0]),
+        (0, 2, vec![]),
+    );
+    let slice = [[16, 0, 0], CHAR8].concat();
+    smoke.same(
+        "Pointer to Slice",
+        ask_of("is_wellformed", &[&[23, 0, 0], &slice[..]].concat()),
+        (0, 0, vec![]),
+    );
+    smoke.same(
+        "element",
+        ask_of("get_element_type", &slice),
+        (0, 3, vec![]),
+    );
+    smoke.same(
+        "no pointee",
+        ask_of("get_pointee_type", &slice),
+        (0, 0, vec![]),
+    );
+    smoke.same(
+        "dereferenced",
+        ask_of(
+            "fully_dereferenced",
+            &[[23, 0, 0], [24, 0, 0], INT32].concat(),
+        ),
+        (0, 6, vec![]),
+    );
+    smoke.same(
+        "known size",
+        ask_of("known_size_in_bytes_as_word_member", &INT32),
+        (0, 1, vec![4]),
+    );
+    smoke.same(
+        "no known size",
+        ask_of("known_size_in_bytes_as_word_member", &slice),
+        (0, 0, vec![]),
+    );
+    smoke.same(
+        "lowest",
+        ask_of("min_i128", &[1, 0, 0]),
+        (0, 0, vec![-128i64 as u64, u64::MAX]),
+    );
+    smoke.same(
+        "highest",
+        ask_of("max_u128", &[5, 0, 0]),
+        (0, 0, vec![u64::MAX, u64::MAX >> 1]),
+    );
+    let halves = [[14, 0, 0], [14, 0, 1 << 63], [2, 0, 0]].concat();
+    smoke.same(
+        "stored size over",
+        ask_of("stored_size", &halves),
+        (17, 0, vec![]),
+    );
+    let none = [[14, 0, u64::MAX], [14, 0, u64::MAX], [20, 0, 0]].concat();
+    smoke.same(
+        "no stored size",
+        ask_of("stored_size", &none),
+        (0, 0, vec![]),
+    );
+}
