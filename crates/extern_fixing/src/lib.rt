@@ -1,4 +1,4 @@
-// Extern fixing: what a declared type becomes by its flags and the context that it stands in.
+// Extern fixing, of a type that is extern or not. In the Rust: `fix_type_for_flags`, `externalize_type`.
 mod externalize;
 mod flags;
 

@@ -1,4 +1,4 @@
-// Starts, depths, sizes and bounds as C has them.
+// Starts, depths, sizes and bounds as two numbers, for C, some written where C lent a place.
 mod measures;
 
 pub use measures::bound;

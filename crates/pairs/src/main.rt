@@ -1,8 +1,6 @@
+// Program: reads a sheet and prints how each of its types stands to each; `sheet_pairs` makes the text.
 use sheet_pairs::pairs_text;
 use type_numbers::Limit;
-
-// Reads a sheet from standard input and prints how each ordered pair of its types stands to one another. All that it prints is
-// made by `sheet_pairs::pairs_text`; here bytes are only moved.
 ghost use mathlib.Core.Path.{_≡_};
 ghost use lib.ListN.{length};
 
@@ -13,6 +11,7 @@ fn buffer() -> [u8; Limit::SHEET_BYTES + 1]
     [0; Limit::SHEET_BYTES + 1]
 }
 
+// All that is printed is made by `pairs_text`; here bytes are only moved.
 fn main() {
     let mut sheet = buffer();
     let n = io::read_full(0, &mut sheet);

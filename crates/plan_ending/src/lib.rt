@@ -1,4 +1,4 @@
-// The end of a plan: what a settling adds to the rounds, in numbers.
+// What a settling adds to the rounds, in numbers. In the Rust: in `autoderef`.
 mod ending;
 
 pub use ending::Ending;

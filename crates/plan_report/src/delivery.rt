@@ -11,7 +11,6 @@ ghost use Rattle.type_layers.specs.Layers.{Whole};
 ghost use Rattle.plan_report.specs.Report as report;
 ghost use Rattle.plan_report.specs.Plan.{planned};
 
-// The most words that a type has.
 pub fn refuse(number: u64, place: u64) -> Report
     ensures { λ r. ⌜ r ≡ report.notGiven number place ⌝ }
 {

@@ -1,4 +1,4 @@
-// A plan as it is told and written.
+// A plan as it is told and written, or the refusals 15 and 14. In the Rust: in `autoderef`.
 mod delivery;
 mod pointers;
 mod report;

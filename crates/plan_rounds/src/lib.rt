@@ -1,4 +1,4 @@
-// The rounds of a plan along the asked steps: what one round does, the rounds in a row, and how they are settled.
+// The rounds along the asked steps, one after the other, and their settling. In the Rust: in `autoderef`.
 mod finish;
 mod round;
 mod rounds;

@@ -1,4 +1,4 @@
-// Steps: four words each, and when a run of words is a run of steps.
+// A step's four words, the check of asked steps, a step written into a run. In the Rust: `ReferenceStep`.
 mod good_steps;
 mod write_step;
 

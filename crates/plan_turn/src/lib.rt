@@ -1,4 +1,4 @@
-// What one round decides.
+// What one round decides, on numbers. In the Rust: in `autoderef`.
 mod decide_turn;
 mod turn;
 

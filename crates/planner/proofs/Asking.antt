@@ -71,20 +71,20 @@ module _ (ws : List ℕ) (n : ℕ) (store known asked target : List ℕ) (level 
       same-members = λ i id. ofLayers (layers (at-most ws store n id few i))
 
       module _ (i : not u ≡ false) where
-        abbrev whole : Answer Plan
-        whole = planInRounds (memberIn ws n store) known asked target level rounds room wide
+        abbrev from-rounds : Answer Plan
+        from-rounds = planInRounds (memberIn ws n store) known asked target level rounds room wide
 
-        planned-so : whole ≡ outcome
+        planned-so : from-rounds ≡ outcome
         unfolding planned planOf planInRounds
         planned-so = rw (ok, ← p, not-false f g, ← q, not-false u i, same-members) refl
 
-        pub told-planned : (r : Report) → r ≡ told whole → r ≡ told outcome
+        pub told-planned : (r : Report) → r ≡ told from-rounds → r ≡ told outcome
         told-planned r e = e ∙ ap told planned-so
 
-        pub steps-planned : (s after : List ℕ) → after ≡ stepsOver whole s → after ≡ stepsOver outcome s
+        pub steps-planned : (s after : List ℕ) → after ≡ stepsOver from-rounds s → after ≡ stepsOver outcome s
         steps-planned s after e = e ∙ ap (λ (a : Answer Plan). stepsOver a s) planned-so
 
-        pub type-planned : (s after : List ℕ) → after ≡ typeOver whole s → after ≡ typeOver outcome s
+        pub type-planned : (s after : List ℕ) → after ≡ typeOver from-rounds s → after ≡ typeOver outcome s
         type-planned s after e = e ∙ ap (λ (a : Answer Plan). typeOver a s) planned-so
 
 -- the members of a table in order

@@ -1,4 +1,4 @@
-// The planner.
+// The plan for any words, tables and numbers, and the theorem of the third demand. In the Rust: `autoderef`.
 mod lent_table;
 mod plan_checks;
 

@@ -1,4 +1,4 @@
-// Which types pass into which others, and by which dereferences.
+// Coerces, address coerces, autoderefs, sub-autoderefs. In the Rust: `can_coerce_into` to `can_subautoderef_into`.
 mod autoderefs;
 mod coerces;
 

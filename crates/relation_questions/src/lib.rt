@@ -1,4 +1,4 @@
-// How two types stand to one another, asked of any words: each relation and each way into another type.
+// Each of these asked of any words.
 mod ask_coercion;
 mod ask_relation;
 

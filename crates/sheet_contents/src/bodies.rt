@@ -4,7 +4,6 @@ ghost use mathlib.Core.Bool.{cond};
 ghost use Prim.Native.Nat.{_≤_};
 ghost use lib.ListN.{length};
 ghost use Rattle.sheet_contents.specs.Contents as sheet;
-ghost use Rattle.type_numbers.specs.Limit as limit;
 
 // Whether a count is from 1 to a limit.
 fn up_to(most: u64, n: u64) -> bool

@@ -1,4 +1,4 @@
-// The text that `pairs` prints of the bytes of a sheet.
+// The text that `pairs` prints, for any bytes.
 mod line;
 mod pairs_table;
 

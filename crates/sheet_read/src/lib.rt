@@ -1,4 +1,4 @@
-// Sheets of types: how their words and bytes are read, and the refusals.
+// A sheet read, words or bytes: how many types, or the first refusal.
 mod reading;
 
 pub use reading::read_sheet;

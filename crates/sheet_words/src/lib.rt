@@ -1,4 +1,4 @@
-// Bytes read as words, the lowest byte first.
+// Bytes as words, the lowest byte first.
 mod decode_words;
 
 pub use decode_words::words_of;

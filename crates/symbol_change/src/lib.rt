@@ -1,4 +1,4 @@
-// What an operation does to a table that is given by its columns, and to its store.
+// Both, for a table in columns: the slot, its new record, the answer.
 mod change;
 
 pub use change::Change;

@@ -1,4 +1,4 @@
-// A table's records in columns of words: a record's row, read and put; and the words of its type in the store.
+// `Symbol`; the records of a table as six columns of words; the words of a slot and of the type that stands there. In the Rust: `struct Symbol`.
 mod column;
 mod rows;
 mod stored_type;

@@ -1,4 +1,4 @@
-// What a table, in columns, has under a name.
+// What a table in columns has under a name.
 mod get;
 
 pub use get::Got;

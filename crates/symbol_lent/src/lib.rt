@@ -1,4 +1,4 @@
-// A lent run of records: gathered once into columns, on which everything else is asked; and the search by id.
+// A lent run of records gathered into columns; the search by id; what proofs by hand over lent records share.
 mod gather_rows;
 mod search_lent;
 

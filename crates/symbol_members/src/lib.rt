@@ -1,4 +1,4 @@
-// What a table has of a member: the type that is stored under its id.
+// What a table in columns has of a member: the type that is stored under its id.
 mod members;
 
 pub use members::member;

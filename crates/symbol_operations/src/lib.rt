@@ -1,4 +1,4 @@
-// What is done to a table under a name.
+// What is done to a table under a name: put of nothing, poison or a type, forward declaration of poison or a type.
 mod operation;
 
 pub use operation::Act;

@@ -1,4 +1,4 @@
-// When a table, in columns, is in order with its store.
+// When a table in columns is in order with its store, in one pass.
 mod order;
 
 pub use order::in_order;

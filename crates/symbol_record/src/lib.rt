@@ -1,4 +1,4 @@
-// What an act does to the record of a slot and to its words.
+// What an act does to that record and to the words of its slot.
 mod record;
 
 pub use record::fill;

@@ -1,4 +1,4 @@
-// The searches through the rows of a table in columns.
+// The search in the columns: the first free record, the one that has an id.
 mod search;
 
 pub use search::first_free;

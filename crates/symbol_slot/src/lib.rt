@@ -1,4 +1,4 @@
-// Which record of a table an act is about.
+// Which record an act on a table is about: the one that has the id, the first free one, or the refusals 12 and 13.
 mod slot;
 
 pub use slot::Way;

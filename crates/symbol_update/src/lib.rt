@@ -1,4 +1,4 @@
-// The update of one record: what the line that applies does to the record and its words.
+// The update of one record with its words, by that line. In the Rust: in `do_update_symbol`.
 mod update_record;
 
 pub use update_record::Updated;

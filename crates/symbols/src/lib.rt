@@ -1,4 +1,4 @@
-// A table of symbols with its store: put, poison, forward declare, get.
+// A lent table of records with its store: put, poison, forward declare, get. In the Rust: `put_symbol`, `poison_symbol`, `forward_declare_symbol`, `get_symbol`.
 mod change;
 mod get;
 mod put;

@@ -1,4 +1,5 @@
-// Asks every question about one type and about two, and fixes types, of ordinary words and of the worst. What it writes is held to the stored lines.
+// Program: every question about one type and about two, and types fixed, of ordinary words and of the worst.
+// What it writes is held to the stored lines.
 mod fixing;
 mod inputs;
 mod relations;

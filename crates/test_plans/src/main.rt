@@ -1,4 +1,5 @@
-// Plans about a small table, some of whose members lead back to pointers. What it writes is held to the stored lines.
+// Program: plans about a small table, every refusal among them, at the edges of rounds, steps, depth and room.
+// Some of its members lead back to pointers. What it writes is held to the stored lines.
 mod asking;
 mod members;
 mod questions;

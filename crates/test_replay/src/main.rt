@@ -1,4 +1,5 @@
-// Replays answers that the Rust gave, from standard input, and compares. Each line is a case, in decimal numbers:
+// Program: 4096 answers of the Rust, about types, symbols and plans, replayed and compared.
+// Each line of standard input is a case, in decimal numbers:
 //
 //     question, refusal, value, written, a, b
 //

@@ -1,4 +1,4 @@
-// The C face: each public question as an exported function, as include/trestlejay.h declares it.
+// The C face: each question as an exported function, as `include/trestlejay.h` declares it.
 mod fixing;
 mod measures;
 mod parts;

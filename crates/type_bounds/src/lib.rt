@@ -1,4 +1,4 @@
-// The lowest and the highest value of a type.
+// The lowest and the highest value of a type. In the Rust: `min_i128`, `max_u128`.
 mod bound;
 mod min_and_max;
 

@@ -1,4 +1,4 @@
-// A layer of each kind, two in a row, and the types of strings.
+// A layer of each kind, two in a row, and the types of strings. In the Rust: `enum ValueType`, `for_string_literal`, `for_string_slice`.
 mod layer;
 mod layer_pair;
 mod strings;

@@ -1,4 +1,4 @@
-// What a type is: its words as layers; and the answers of every question.
+// What a type is: its words as layers, the kinds by their sort, outer kind and inner type; and the answers that every crate gives.
 mod answers;
 mod outer_and_inner;
 mod sorts;

@@ -1,4 +1,4 @@
-// The numbers of the rules, by name: kinds, steps and their marks, contexts, states, refusals, limits.
+// The numbers of the rules, by name: kinds, steps, marks, contexts, states, effects, refusals, limits. In the Rust: `enum ValueType`, `enum FixContext`.
 mod context;
 mod effect;
 mod kind;

@@ -1,4 +1,4 @@
-// Where the parts of a type start.
+// The word at which such a part starts, for any words.
 mod part_starts;
 
 pub use part_starts::Part;

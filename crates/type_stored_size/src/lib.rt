@@ -1,4 +1,4 @@
-// The stored size of a type.
+// The stored size of a type, or refusal 17.
 mod stored_sizes;
 
 pub use stored_sizes::stored_size;

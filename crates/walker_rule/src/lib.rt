@@ -1,4 +1,4 @@
-// The rule of the plain walker: what one step does to a type; and the member that a step asks for.
+// The plain walker of the third demand, as a definition; and the member that a step asks for.
 mod asked;
 
 pub use asked::asked_member;

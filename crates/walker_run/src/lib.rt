@@ -1,4 +1,4 @@
-// The plain walker at work: it takes steps in a row and tells where it arrived.
+// The walker as a function: steps in a row, then the address.
 mod lent_table;
 mod steps_taken;
 

@@ -11,7 +11,6 @@ use Rattle.type_numbers.specs.Kind as kind
 use Rattle.type_layers.specs.Layers.{Layer, layers, outer, inside, innerWords, isArray, isReference, Whole}
 use Rattle.type_layers.proofs.Words.{inner-layers, inner-whole, none, more}
 use Rattle.type_layers.proofs.Decide.{yes, no}
-use Rattle.type_numbers.specs.StepKind as of-step
 use Rattle.type_numbers.specs.Mark as of-mark
 use Rattle.plan_steps.specs.Steps.{Step}
 use Rattle.symbol_members.specs.Stored.{Stored}

@@ -1,4 +1,4 @@
-// One step of the plain walker, on numbers and words.
+// One step of the walker, as functions on numbers and words.
 mod step_move;
 
 pub use step_move::Move;

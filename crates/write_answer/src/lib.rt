@@ -1,4 +1,4 @@
-// Answers as C has them: the paper's answers in two words.
+// Answers as two numbers, a refusal and a value, for C.
 mod answer;
 
 pub use answer::Answer;

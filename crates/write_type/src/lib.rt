@@ -1,4 +1,4 @@
-// A type that was made, written to the words that were lent.
+// A type that was made, written to what was lent, or the refusals 15 and 14.
 mod made;
 
 pub use made::write_type;

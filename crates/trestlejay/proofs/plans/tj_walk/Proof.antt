@@ -1,4 +1,4 @@
--- `tj_walk` only calls `walk` of the crate `walks`.
+-- `tj_walk` only calls `walk` of the crate `walker_run`.
 -- Assumes nothing.
 use mathlib.Core.Path.{refl}
 use mathlib.Core.List.{[], _∷_}

@@ -1,4 +1,4 @@
--- `tj_update_symbol` only calls `do_update_symbol` of the crate `lone`.
+-- `tj_update_symbol` only calls `do_update_symbol` of the crate `symbol_update_lone`.
 -- Assumes nothing.
 use mathlib.Core.Path.{refl}
 use mathlib.Core.List.{[], _∷_}

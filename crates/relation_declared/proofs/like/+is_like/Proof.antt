@@ -6,12 +6,12 @@ use Rattle.type_layers.proofs.Cycle.{at, below}
 use Rattle.type_layers.proofs.Words.{shorter}
 use Rattle.relation_declared.proofs.Decisions.{like-none, like-less, like-in, like-out}
 use Rattle.relation_equals.proofs.identical.Reads as identical
-use Rattle.relation_declared.proofs.general.array_meets_arraylike.Reads as array-meets-arraylike
-use Rattle.relation_declared.proofs.general.is_like.Reads.{Pre, Post}
-use Rattle.relation_declared.proofs.general.is_like.Kinds.{ps}
-use Rattle.relation_declared.proofs.general.+is_like.Lts-is_like.{spec}
-use Rattle.relation_declared.proofs.general.+is_like.{statement}
-use Rattle.relation_declared.proofs.general.+is_like.Tie.{close}
+use Rattle.relation_declared.proofs.like.array_meets_arraylike.Reads as array-meets-arraylike
+use Rattle.relation_declared.proofs.like.is_like.Reads.{Pre, Post}
+use Rattle.relation_declared.proofs.like.is_like.Kinds.{ps}
+use Rattle.relation_declared.proofs.like.+is_like.Lts-is_like.{spec}
+use Rattle.relation_declared.proofs.like.+is_like.{statement}
+use Rattle.relation_declared.proofs.like.+is_like.Tie.{close}
 
 abbrev μ : Measures 2 ps ℕ
 μ κs a = length (a .0 .now)

@@ -1,6 +1,6 @@
 use borrow.Author.Needs.{needs}
-use Rattle.relation_declared.proofs.general.resolves.Statement.{statement}
-use Rattle.relation_declared.proofs.general.resolves.Tie as tie
+use Rattle.relation_declared.proofs.concretization.resolves.Statement.{statement}
+use Rattle.relation_declared.proofs.concretization.resolves.Tie as tie
 
 pub resolves-spec : {M : Type 1} → statement M
 resolves-spec =

@@ -8,16 +8,16 @@ use Rattle.type_layers.proofs.Words.{shorter}
 use Rattle.type_layers.proofs.inner.Reads as inner
 use Rattle.type_layers.proofs.outer.Reads as outer
 use Rattle.relation_declared.proofs.Decisions.{concrete-none, concrete-less, concrete-in, concrete-like, concrete-pointer, concrete-resolved, concrete-same}
-use Rattle.relation_declared.proofs.general.is_like.Reads as is-like
-use Rattle.relation_declared.proofs.general.same_holder.Reads as same-holder
-use Rattle.relation_declared.proofs.general.meets_arraylike.Reads as meets-arraylike
-use Rattle.relation_declared.proofs.general.slice_pointer_meets_pointer.Reads as slice-pointer-meets-pointer
-use Rattle.relation_declared.proofs.general.resolves.Reads as resolves
-use Rattle.relation_declared.proofs.general.can_be_concretization_of.Reads.{Pre, Post}
-use Rattle.relation_declared.proofs.general.can_be_concretization_of.Kinds.{ps}
-use Rattle.relation_declared.proofs.general.+can_be_concretization_of.Lts-can_be_concretization_of.{spec}
-use Rattle.relation_declared.proofs.general.+can_be_concretization_of.{statement}
-use Rattle.relation_declared.proofs.general.+can_be_concretization_of.Tie.{close}
+use Rattle.relation_declared.proofs.like.is_like.Reads as is-like
+use Rattle.relation_declared.proofs.concretization.same_holder.Reads as same-holder
+use Rattle.relation_declared.proofs.concretization.meets_arraylike.Reads as meets-arraylike
+use Rattle.relation_declared.proofs.declared.slice_pointer_meets_pointer.Reads as slice-pointer-meets-pointer
+use Rattle.relation_declared.proofs.concretization.resolves.Reads as resolves
+use Rattle.relation_declared.proofs.concretization.can_be_concretization_of.Reads.{Pre, Post}
+use Rattle.relation_declared.proofs.concretization.can_be_concretization_of.Kinds.{ps}
+use Rattle.relation_declared.proofs.concretization.+can_be_concretization_of.Lts-can_be_concretization_of.{spec}
+use Rattle.relation_declared.proofs.concretization.+can_be_concretization_of.{statement}
+use Rattle.relation_declared.proofs.concretization.+can_be_concretization_of.Tie.{close}
 
 abbrev μ : Measures 2 ps ℕ
 μ κs a = length (a .0 .now)

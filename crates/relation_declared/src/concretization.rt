@@ -1,3 +1,6 @@
+use crate::declared::slice_pointer_meets_pointer;
+use crate::like::array_meets_arraylike;
+use crate::like::is_like;
 use relation_equals::identical;
 use type_layers::holds_inner;
 use type_layers::inner;
@@ -9,61 +12,6 @@ ghost use Prim.Native.Nat.{_≤_};
 ghost use lib.ListN.{length};
 ghost use Rattle.type_layers.specs.Layers.{layers, head};
 ghost use Rattle.relation_declared.specs.Relations as rules;
-
-fn array_meets_arraylike(k: u64, l: u64) -> bool
-    ensures { λ r. ⌜ r ≡ rules.arrayMeetsArraylike k l ⌝ }
-{
-    ((k == Kind::ARRAY) | (k == Kind::ARRAY_WITH_NAMED_LENGTH) | (k == Kind::ENDLESS_ARRAY))
-        & (l == Kind::ARRAYLIKE)
-}
-
-// Whether a type is like another: the same, but that arrays may stand where the other has an Arraylike.
-pub fn is_like(a: &[u64], b: &[u64]) -> bool
-    ensures { λ r. ⌜ r ≡ rules.like (layers (now (a .entry))) (layers (now (b .entry))) ⌝ }
-{
-    if a.len() < 3 {
-        return b.len() < 3;
-    }
-    if b.len() < 3 {
-        return false;
-    }
-    if array_meets_arraylike(a[0], b[0]) {
-        is_like(&a[3..], &b[3..])
-    } else {
-        identical(a, b)
-    }
-}
-
-fn declares_arraylike(k: u64, l: u64) -> bool
-    ensures { λ r. ⌜ r ≡ rules.declaresArraylike k l ⌝ }
-{
-    ((k == Kind::ARRAY) | (k == Kind::ARRAY_WITH_NAMED_LENGTH) | (k == Kind::SLICE))
-        & (l == Kind::ARRAYLIKE)
-}
-
-// A SlicePointer against a Pointer to an Arraylike: the outer kinds of both and of the pointee.
-fn slice_pointer_meets_pointer(k: u64, l: u64, m: u64) -> bool
-    ensures { λ r. ⌜ r ≡ rules.slicePointerMeetsPointer k l m ⌝ }
-{
-    (k == Kind::SLICE_POINTER) & (l == Kind::POINTER) & (m == Kind::ARRAYLIKE)
-}
-
-// Whether a type can be declared as another.
-pub fn can_be_declared_as(a: &[u64], b: &[u64]) -> bool
-    ensures { λ r. ⌜ r ≡ rules.declared (layers (now (a .entry))) (layers (now (b .entry))) ⌝ }
-{
-    let k = outer(a);
-    let l = outer(b);
-    let element = inner(a);
-    let held = inner(b);
-    if declares_arraylike(k, l) {
-        return identical(element, held);
-    }
-    if slice_pointer_meets_pointer(k, l, outer(held)) {
-        return identical(element, inner(held));
-    }
-    identical(a, b)
-}
 
 // The same outer kind that holds an inner type, with the same length or name.
 fn same_holder(a: &[u64], b: &[u64]) -> bool

@@ -1,7 +1,7 @@
 use borrow.Author.Needs.{needs}
 use Rattle.relation_declared.proofs.Decisions.{declared-array, declared-pointer, declared-same}
-use Rattle.relation_declared.proofs.general.can_be_declared_as.Statement.{statement}
-use Rattle.relation_declared.proofs.general.can_be_declared_as.Tie as tie
+use Rattle.relation_declared.proofs.declared.can_be_declared_as.Statement.{statement}
+use Rattle.relation_declared.proofs.declared.can_be_declared_as.Tie as tie
 
 pub can-be-declared-as-spec : {M : Type 1} → statement M
 can-be-declared-as-spec =
