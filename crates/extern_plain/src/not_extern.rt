@@ -8,11 +8,11 @@ use write_type::write_type;
 ghost use mathlib.Core.Path.{_≡_};
 ghost use mathlib.Core.Bool.{_||_};
 ghost use lib.Dec.{eqb};
+ghost use Rattle.type_numbers.specs.Context as of-context;
 ghost use Rattle.type_layers.specs.Layers.{layers};
 ghost use Rattle.type_layers.specs.Answer.{given, ofChecked};
 ghost use Rattle.write_type.specs.Outcome.{answerIn, bufferIn};
 ghost use Rattle.extern_plain.specs.Fixed as fixed;
-ghost use Rattle.type_numbers.specs.Context as of-context;
 
 fn is_viewed(context: u64) -> bool
     ensures { λ r. ⌜ r ≡ eqb context of-context.parameter || eqb context of-context.returned ⌝ }

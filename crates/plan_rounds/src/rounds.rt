@@ -13,6 +13,7 @@ use type_wellformed::is_wellformed;
 ghost use mathlib.Core.Path.{_≡_};
 ghost use Prim.Native.Nat.{_≤_, _*_};
 ghost use lib.ListN.{length, drop};
+ghost use Rattle.type_numbers.specs.Limit as limit;
 ghost use Rattle.type_layers.specs.Layers.{Whole};
 ghost use Rattle.symbol_members.specs.Members.{memberIn};
 ghost use Rattle.plan_report.specs.Report as report;
@@ -45,7 +46,7 @@ pub fn plan_in_rounds<'a>(
     steps: &mut [u64],
     ty: &mut [u64],
 ) -> Report
-    requires { ⌜ Whole (now known) × Whole (now target) × (level ≤ 255) × (rounds ≤ 64) ⌝ }
+    requires { ⌜ Whole (now known) × Whole (now target) × (level ≤ 255) × (rounds ≤ limit.rounds) ⌝ }
     requires { ⌜ AllWhole (memberIn (now flat) count (now store)) ⌝ }
     ensures answer { λ r. ⌜ r ≡ report.told (planInRounds (memberIn (now (flat .entry)) count (now (store .entry))) (now (known .entry)) (now (asked .entry)) (now (target .entry)) level rounds (length (now (steps .entry))) (length (now (ty .entry)))) ⌝ }
     ensures written { λ _. ⌜ now (steps .exit) ≡ report.stepsOver (planInRounds (memberIn (now (flat .entry)) count (now (store .entry))) (now (known .entry)) (now (asked .entry)) (now (target .entry)) level rounds (length (now (steps .entry))) (length (now (ty .entry)))) (now (steps .entry)) ⌝ }

@@ -12,12 +12,12 @@ use type_wellformed::is_wellformed;
 ghost use mathlib.Core.Path.{_≡_};
 ghost use Prim.Native.Nat.{_≤_};
 ghost use lib.ListN.{length};
+ghost use Rattle.type_numbers.specs.Limit as limit;
 ghost use Rattle.type_layers.specs.Answer.{ofChecked};
 ghost use Rattle.type_layers.specs.Layers.{Whole};
 ghost use Rattle.symbol_columns.specs.Rows.{readFrom};
 ghost use Rattle.plan_report.specs.Report as report;
 ghost use Rattle.planner.specs.Answers as answers;
-ghost use Rattle.type_numbers.specs.Limit as limit;
 
 fn check_limits(asked: &[u64], rounds: u64) -> Checked
     ensures { λ r. ⌜ ofChecked r ≡ answers.limits (now (asked .entry)) rounds ⌝ }

@@ -3,6 +3,7 @@ ghost use mathlib.Core.Path.{_≡_};
 ghost use mathlib.Core.Bool.{cond};
 ghost use Prim.Native.Nat.{_≤_};
 ghost use lib.ListN.{length};
+ghost use Rattle.type_numbers.specs.Limit as limit;
 ghost use Rattle.sheet_contents.specs.Contents as sheet;
 
 // Whether a count is from 1 to a limit.
@@ -14,7 +15,7 @@ fn up_to(most: u64, n: u64) -> bool
 
 // The layers of all types together; 0 where a layer count is not 1 to 16.
 fn total(counts: &[u64]) -> usize
-    requires { ⌜ length (now counts) ≤ 32 ⌝ }
+    requires { ⌜ length (now counts) ≤ limit.sheetTypes ⌝ }
     ensures is { λ r. ⌜ r ≡ cond (sheet.goodCounts (now (counts .entry))) (sheet.total (now (counts .entry))) 0 ⌝ }
     ensures few { λ r. ⌜ r ≤ 512 ⌝ }
 {
@@ -34,7 +35,7 @@ fn total(counts: &[u64]) -> usize
 // How many types a sheet has; 0 where the counts are not those of a sheet, or a word is missing or left over.
 pub fn types_in(words: &[u64]) -> usize
     ensures is { λ r. ⌜ r ≡ sheet.typesIn (now (words .entry)) ⌝ }
-    ensures few { λ r. ⌜ r ≤ 32 ⌝ }
+    ensures few { λ r. ⌜ r ≤ limit.sheetTypes ⌝ }
 {
     if words.len() == 0 {
         return 0;

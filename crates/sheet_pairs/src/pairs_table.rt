@@ -10,6 +10,7 @@ ghost use mathlib.Core.Path.{_≡_};
 ghost use mathlib.Core.List.{_++_};
 ghost use Prim.Native.Nat.{_+_, _*_, _≤_, _<_};
 ghost use lib.ListN.{length, take};
+ghost use Rattle.type_numbers.specs.Limit as limit;
 ghost use Rattle.write_words.specs.Written.{written};
 ghost use Rattle.sheet_contents.specs.Contents.{types, typeAt};
 ghost use Rattle.sheet_text.specs.Put.{putAt};
@@ -17,7 +18,7 @@ ghost use Rattle.sheet_pairs.specs.Text as text;
 
 // Puts the lines of one left type against each of the n types of a sheet.
 fn put_row(out: &mut [u8], at: usize, words: &[u64], n: usize, i: usize) -> usize
-    requires { ⌜ (at + 576 ≤ length (now out)) × (n ≤ 32) × (i < 32) × (n ≡ length (types (now words))) ⌝ }
+    requires { ⌜ (at + 576 ≤ length (now out)) × (n ≤ limit.sheetTypes) × (i < limit.sheetTypes) × (n ≡ length (types (now words))) ⌝ }
     ensures next { λ r. ⌜ r ≡ at + length (text.row (types (now (words .entry))) (i + 1) (typeAt i (now (words .entry)))) ⌝ }
     ensures text { λ _. ⌜ now (out .exit) ≡ putAt at (text.row (types (now (words .entry))) (i + 1) (typeAt i (now (words .entry)))) (now (out .entry)) ⌝ }
 {
@@ -33,7 +34,7 @@ fn put_row(out: &mut [u8], at: usize, words: &[u64], n: usize, i: usize) -> usiz
 
 // Puts the lines of all ordered pairs of the n types of a sheet.
 fn put_rows(out: &mut [u8], at: usize, words: &[u64], n: usize) -> usize
-    requires { ⌜ (at + n * 576 ≤ length (now out)) × (n ≤ 32) × (n ≡ length (types (now words))) ⌝ }
+    requires { ⌜ (at + n * 576 ≤ length (now out)) × (n ≤ limit.sheetTypes) × (n ≡ length (types (now words))) ⌝ }
     ensures next { λ r. ⌜ r ≡ at + length (text.rows (types (now (words .entry)))) ⌝ }
     ensures text { λ _. ⌜ now (out .exit) ≡ putAt at (text.rows (types (now (words .entry)))) (now (out .entry)) ⌝ }
 {
@@ -59,7 +60,7 @@ fn put_refusal(out: &mut [u8], number: u64) -> usize
 
 // Puts the header and the lines of a sheet of n types.
 fn put_table(out: &mut [u8], words: &[u64], n: usize) -> usize
-    requires { ⌜ (18494 ≤ length (now out)) × (n ≤ 32) × (n ≡ length (types (now words))) ⌝ }
+    requires { ⌜ (18494 ≤ length (now out)) × (n ≤ limit.sheetTypes) × (n ≡ length (types (now words))) ⌝ }
     ensures next { λ r. ⌜ r ≡ length (text.header ++ text.rows (types (now (words .entry)))) ⌝ }
     ensures text { λ _. ⌜ now (out .exit) ≡ putAt 0 (text.header ++ text.rows (types (now (words .entry)))) (now (out .entry)) ⌝ }
 {

@@ -7,10 +7,10 @@ use type_numbers::Refusal;
 ghost use mathlib.Core.Path.{_≡_};
 ghost use mathlib.Core.Bool.{cond, not, _&&_};
 ghost use lib.Dec.{eqb};
+ghost use Rattle.type_numbers.specs.Limit as limit;
 ghost use Rattle.type_layers.specs.Layers.{holdsInner};
 ghost use Rattle.type_layers.specs.Answer.{next, ofChecked};
 ghost use Rattle.type_checks.specs.Check.{checkOf};
-ghost use Rattle.type_numbers.specs.Limit as limit;
 
 // The place of no layer: a type has at most 16, from 0.
 const NOWHERE: u64 = Limit::LAYERS;
