@@ -15,12 +15,12 @@ use Rattle.type_checks.specs.Check.{checkOf}
 use Rattle.type_layers.specs.declared.answers.Checked.{Checked}
 use Rattle.type_layers.specs.declared.answers.Checked.the-variants.{Good, Refused}
 use Rattle.type_layers.proofs.Words.{inner-layers, inner-whole}
-use Rattle.type_wellformed.specs.Formed.{wellFormed}
+use Rattle.type_wellformed.specs.WellFormed.{wellFormed}
 use Rattle.write_words.specs.Written.{written}
 use Rattle.write_words.proofs.Writing.{fits}
 use Rattle.extern_fixing.specs.Fixing.{under, externalized, externalize, fixedExtern, fixed}
 use Rattle.type_numbers.specs.Context.{member}
-use Rattle.extern_plain.specs.Fixed.{fixedPlain}
+use Rattle.extern_plain.specs.Plain.{fixedPlain}
 use Rattle.write_type.specs.Outcome.{delivered, told, over}
 use Rattle.type_checks.proofs.Accepted.{accepted-whole}
 use Rattle.extern_fixing.specs.Answers.{fixedType}

@@ -14,10 +14,10 @@ use Rattle.type_layers.specs.Answer.{Answer, given, nothing, refused, next}
 use Rattle.type_layers.proofs.Decide.{both}
 use Rattle.type_checks.specs.Check.{Place, at, nowhere, badCount, badLayer, misplaced, checkOf, unless}
 use Rattle.type_checks.proofs.Accepted.{placed-inside}
-use Rattle.type_wellformed.specs.Formed.{wellFormed, inner, element}
+use Rattle.type_wellformed.specs.WellFormed.{wellFormed, inner, element}
 use Rattle.type_wellformed.proofs.Fits.{one, or, references}
 use Rattle.type_numbers.specs.Context.{parameter, returned, member}
-use Rattle.extern_plain.specs.Fixed.{fixedPlain}
+use Rattle.extern_plain.specs.Plain.{fixedPlain}
 use Rattle.extern_fixing.specs.Fixing.{under, kept, externalized, externalize, fixedExtern, fixed}
 use Rattle.write_type.specs.Outcome.{delivered}
 use Rattle.extern_fixing.specs.Answers.{fixedType}

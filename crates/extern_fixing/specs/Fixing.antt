@@ -8,8 +8,8 @@ use Rattle.type_numbers.specs.Context as of-context
 use Rattle.type_numbers.specs.Kind as kind
 use Rattle.type_layers.specs.Layers.{Layer, layer, outer, inside, isReference}
 use Rattle.type_layers.specs.Answer.{Answer, given, nothing, refused}
-use Rattle.extern_plain.specs.Fixed.{fixedPlain}
-use Rattle.type_wellformed.specs.Formed.{wellFormed}
+use Rattle.extern_plain.specs.Plain.{fixedPlain}
+use Rattle.type_wellformed.specs.WellFormed.{wellFormed}
 
 -- Layers around a type that was made. A refusal stands.
 unfoldable pub under : List Layer → Answer (List Layer) → Answer (List Layer)

@@ -12,7 +12,7 @@ use Rattle.type_numbers.specs.Words.{words}
 use Rattle.type_layers.specs.Layers.{layers, outer, inside}
 use Rattle.type_layers.proofs.Words.{inner-layers}
 use Rattle.type_numbers.specs.Context.{parameter, returned}
-use Rattle.extern_plain.specs.Fixed.{fixedPlain}
+use Rattle.extern_plain.specs.Plain.{fixedPlain}
 
 module _ (ws : List ℕ) (context k : ℕ) (e : k ≡ outer (layers ws)) where
   pub as-slice : (front r : List ℕ) → k ≡ kind.arraylike → front ≡ words kind.slice 0 0 → r ≡ drop 3 ws →

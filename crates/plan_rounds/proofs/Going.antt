@@ -9,11 +9,11 @@ use lib.ListN.{drop}
 use Rattle.type_layers.specs.Layers.{Layer, layers, outer, inside}
 use Rattle.type_layers.specs.Answer.{Answer, given, refused}
 use Rattle.type_layers.proofs.Words.{inner-layers}
-use Rattle.type_wellformed.specs.Formed.{wellFormed}
+use Rattle.type_wellformed.specs.WellFormed.{wellFormed}
 use Rattle.plan_steps.specs.Steps.{Step}
 use Rattle.plan_turn.specs.Turn.{Turn}
 use Rattle.plan_turn.proofs.Cases.{cases}
-use Rattle.symbol_members.specs.Stored.{Stored}
+use Rattle.symbol_members.specs.Member.{Stored}
 use Rattle.symbol_members.specs.Members.{ofLayers}
 use Rattle.plan_rounds.specs.Rounds.{goes, turnAt, memberType}
 use Rattle.plan_rounds.specs.Onto.{onto}

@@ -11,9 +11,9 @@ use lib.Seq.{drop-length}
 use borrow.Author.Tests.{eq-eqb, ne-eqb, not-true, not-false}
 use Rattle.type_layers.specs.Layers.{layers, outer, head, Whole}
 use Rattle.type_layers.proofs.Words.{none, more, rest, inner-layers, inner-whole, part-is}
-use Rattle.type_wellformed.specs.Formed.{wellFormed}
+use Rattle.type_wellformed.specs.WellFormed.{wellFormed}
 use Rattle.plan_steps.proofs.Words.{stepAt}
-use Rattle.plan_turn.specs.Turns.{turn}
+use Rattle.plan_turn.specs.Round.{turn}
 use Rattle.plan_turn.specs.Turn as paper
 use Rattle.plan_turn.specs.Turn.{ofTurn}
 use Rattle.plan_turn.specs.declared.turn.Turn.{Turn}

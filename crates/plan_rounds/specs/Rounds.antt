@@ -6,13 +6,13 @@ use lib.ListN.{drop}
 use Rattle.type_numbers.specs.Refusal as refusal
 use Rattle.type_layers.specs.Layers.{Layer, outer, inside}
 use Rattle.type_layers.specs.Answer.{Answer, given, nothing, refused}
-use Rattle.type_wellformed.specs.Formed.{wellFormed}
+use Rattle.type_wellformed.specs.WellFormed.{wellFormed}
 use Rattle.type_numbers.specs.StepKind as of-step
 use Rattle.type_numbers.specs.Mark as of-mark
 use Rattle.plan_steps.specs.Steps.{Step, step}
 use Rattle.plan_turn.specs.Turn.{Turn, Stuck, Auto, Element, Desliced, Member}
-use Rattle.plan_turn.specs.Turns.{turn}
-use Rattle.symbol_members.specs.Stored.{Stored, typed, absent}
+use Rattle.plan_turn.specs.Round.{turn}
+use Rattle.symbol_members.specs.Member.{Stored, typed, absent}
 
 -- How the rounds end: with the steps so far, how many asked steps were taken, and the current type; or with a refusal's number.
 pub data Rounds : Type 0 where

@@ -10,6 +10,7 @@ ghost use mathlib.Core.Path.{_≡_};
 ghost use mathlib.Core.List.{_++_};
 ghost use Prim.Native.Nat.{_+_, _*_, _≤_};
 ghost use lib.ListN.{length, take, replicate};
+ghost use Rattle.type_numbers.specs.Limit as limit;
 ghost use Rattle.type_layers.specs.Layers.{layers, Whole};
 ghost use Rattle.plan_steps.specs.Steps.{step, stepWords};
 ghost use Rattle.plan_report.specs.Report as report;
@@ -40,7 +41,7 @@ pub(crate) fn finish<'a>(
     steps: &mut [u64],
     ty: &mut [u64],
 ) -> Report
-    requires { ⌜ Whole (now cur) × Whole (now target) × (level ≤ 255) × (4 * n + 64 ≤ length (now buf)) ⌝ }
+    requires { ⌜ Whole (now cur) × Whole (now target) × (level ≤ 255) × (4 * (n + limit.layers) ≤ length (now buf)) ⌝ }
     ensures answer { λ r. ⌜ r ≡ report.told (finished (take (4 * n) (now (buf .entry))) taken (layers (now (cur .entry))) (layers (now (target .entry))) level (length (now (steps .entry))) (length (now (ty .entry)))) ⌝ }
     ensures written { λ _. ⌜ now (steps .exit) ≡ report.stepsOver (finished (take (4 * n) (now (buf .entry))) taken (layers (now (cur .entry))) (layers (now (target .entry))) level (length (now (steps .entry))) (length (now (ty .entry)))) (now (steps .entry)) ⌝ }
     ensures reported { λ _. ⌜ now (ty .exit) ≡ report.typeOver (finished (take (4 * n) (now (buf .entry))) taken (layers (now (cur .entry))) (layers (now (target .entry))) level (length (now (steps .entry))) (length (now (ty .entry)))) (now (ty .entry)) ⌝ }

@@ -32,8 +32,8 @@ fn after(q: &[u64], k: usize) -> &[u64]
     }
 }
 
-// Goes from the known type along the asked steps, at most so many rounds, left as soon as no asked step is left; then
-// settles. The run has room for all the steps: 64 rounds add at most two each, and the settling at most 16.
+// Goes from the known type along the asked steps, at most so many rounds, and stops as soon as no asked step is left;
+// then settles. The run has room for all the steps: 64 rounds add at most two each, and the settling at most 16.
 pub fn plan_in_rounds<'a>(
     flat: &Columns,
     count: usize,

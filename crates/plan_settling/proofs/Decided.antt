@@ -10,8 +10,8 @@ use borrow.Author.Tests.{eq-eqb, ne-eqb, le-leb, lt-leb}
 use Rattle.type_layers.specs.Layers.{Layer, layers, outer, innerWords}
 use Rattle.type_layers.proofs.Words.{inner-layers}
 use Rattle.type_size_and_depth.specs.Depth.{pointerDepth}
-use Rattle.relation_equals.specs.Equalities.{identical}
-use Rattle.relation_coerces.specs.Coercions.{coerces, addressCoerces}
+use Rattle.relation_equals.specs.Equals.{identical}
+use Rattle.relation_coerces.specs.Coerces.{coerces, addressCoerces}
 use Rattle.plan_settling.specs.Line as line
 use Rattle.plan_settling.specs.Settling.{settleOtherwise, lineOf, settleBy, settle, lineBy, ofSettling, Settles, Otherwise}
 use Rattle.plan_settling.specs.declared.settling.Settling.{Settling}

@@ -11,8 +11,8 @@ use Rattle.type_numbers.specs.Kind as kind
 use Rattle.type_layers.specs.Layers.{Layer, outer, inside}
 use Rattle.type_layers.specs.Answer.{given, refused}
 use Rattle.type_size_and_depth.specs.Depth.{pointerDepth}
-use Rattle.relation_equals.specs.Equalities.{identical}
-use Rattle.relation_coerces.specs.Coercions.{coerces, addressCoerces}
+use Rattle.relation_equals.specs.Equals.{identical}
+use Rattle.relation_coerces.specs.Coerces.{coerces, addressCoerces}
 use Rattle.type_layers.proofs.Decide.{both}
 use Rattle.type_numbers.specs.StepKind as of-step
 use Rattle.plan_steps.specs.Steps.{step}

@@ -11,8 +11,8 @@ use Rattle.type_layers.specs.Layers.{Layer, layer, outer, inside}
 use Rattle.type_layers.specs.Answer.{Answer, given, refused}
 use Rattle.type_parts.specs.Parts.{references}
 use Rattle.type_size_and_depth.specs.Depth.{pointerDepth}
-use Rattle.relation_equals.specs.Equalities.{identical}
-use Rattle.relation_coerces.specs.Coercions.{coerces, addressCoerces}
+use Rattle.relation_equals.specs.Equals.{identical}
+use Rattle.relation_coerces.specs.Coerces.{coerces, addressCoerces}
 use Rattle.type_numbers.specs.StepKind as of-step
 use Rattle.plan_steps.specs.Steps.{Step, step}
 use Rattle.plan_settling.specs.Line as line

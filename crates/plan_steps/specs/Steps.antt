@@ -8,7 +8,7 @@ use Rattle.type_numbers.specs.Limit as limit
 use Rattle.type_numbers.specs.Mark as of-mark
 use Rattle.type_numbers.specs.Refusal as refusal
 use Rattle.type_layers.specs.Answer.{Answer, given, refused}
-use Rattle.type_numbers.specs.StepKind as kind
+use Rattle.type_numbers.specs.StepKind as of-step
 
 -- "A step is four words: kind, handle, mark, number."
 pub record Step : Type 0 where
@@ -43,10 +43,10 @@ isHandle h = leb h limit.name
 -- Autodeslice 2 (mark 0 by view, 1 by pointer, 2 length), Autoderef 3, Autoview 4; unused words 0"
 unfoldable pub goodStep : Step → Bool
 goodStep s =
-    cond (eqb (s .kind) kind.element) (isHandle (s .handle) && leb (s .mark) of-mark.yes && eqb (s .number) 0)
-    (cond (eqb (s .kind) kind.member) (isHandle (s .handle) && leb (s .mark) of-mark.offset && (eqb (s .mark) of-mark.offset || eqb (s .number) 0))
-    (cond (eqb (s .kind) kind.autodeslice) (eqb (s .handle) 0 && leb (s .mark) of-mark.byLength && eqb (s .number) 0)
-    (leb (s .kind) kind.autoview && eqb (s .handle) 0 && eqb (s .mark) 0 && eqb (s .number) 0)))
+    cond (eqb (s .kind) of-step.element) (isHandle (s .handle) && leb (s .mark) of-mark.yes && eqb (s .number) 0)
+    (cond (eqb (s .kind) of-step.member) (isHandle (s .handle) && leb (s .mark) of-mark.offset && (eqb (s .mark) of-mark.offset || eqb (s .number) 0))
+    (cond (eqb (s .kind) of-step.autodeslice) (eqb (s .handle) 0 && leb (s .mark) of-mark.byLength && eqb (s .number) 0)
+    (leb (s .kind) of-step.autoview && eqb (s .handle) 0 && eqb (s .mark) 0 && eqb (s .number) 0)))
 
 unfoldable pub goodSteps : List Step → Bool
 goodSteps [] = true

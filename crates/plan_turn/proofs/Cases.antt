@@ -12,7 +12,7 @@ use Rattle.type_layers.proofs.Decide.{both}
 use Rattle.type_numbers.specs.StepKind as of-step
 use Rattle.type_numbers.specs.Mark as of-mark
 use Rattle.plan_turn.specs.Turn.{Turn, Stuck, Auto, Element, Desliced, Member}
-use Rattle.plan_turn.specs.Turns.{auto, onReference, onElement, onMember, turn}
+use Rattle.plan_turn.specs.Round.{auto, onReference, onElement, onMember, turn}
 
 -- a kind that one of two tests names
 either : (k l m : ℕ) → (eqb k l || eqb k m) ≡ true → (k ≡ l) ⊎ (k ≡ m)

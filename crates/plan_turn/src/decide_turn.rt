@@ -4,7 +4,7 @@ use type_numbers::Mark;
 use type_numbers::StepKind;
 ghost use mathlib.Core.Path.{_≡_};
 ghost use Rattle.plan_turn.specs.Turn.{ofTurn};
-ghost use Rattle.plan_turn.specs.Turns as rules;
+ghost use Rattle.plan_turn.specs.Round as rules;
 
 // On a Pointer or a View, of the kind inside.
 fn on_reference(k: u64, l: u64, asked: u64, mark: u64) -> Turn

@@ -20,7 +20,7 @@ use Rattle.write_answer.specs.declared.answer.Answer.{Answer}
 use Rattle.write_answer.specs.Flat.{accepted, notAccepted, flat}
 use Rattle.plan_steps.specs.Steps.{steps, stepsAnswer}
 use Rattle.plan_steps.proofs.Words.{words-length}
-use Rattle.symbol_members.specs.Stored.{Stored}
+use Rattle.symbol_members.specs.Member.{Stored}
 use Rattle.walker_rule.specs.Walker.{at, arrives}
 use Rattle.symbol_members.specs.Members.{members}
 use Rattle.walker_run.specs.Walked.{walkTo}

@@ -10,7 +10,7 @@ use Rattle.type_numbers.specs.Kind as kind
 use Rattle.type_layers.specs.Layers.{Layer, layers, outer}
 use Rattle.type_layers.specs.Answer.{Answer, given, nothing, refused, next}
 use Rattle.type_checks.specs.Check.{Place, at, nowhere, badCount, badLayer, misplaced, unless, checkOf}
-use Rattle.type_wellformed.specs.Formed.{wellFormed}
+use Rattle.type_wellformed.specs.WellFormed.{wellFormed}
 use Rattle.type_size_and_depth.specs.Depth.{pointerDepth}
 use Rattle.symbol_columns.specs.declared.symbol.Symbol.{Symbol}
 use Rattle.symbol_order.specs.Order.{inOrder}
@@ -19,7 +19,7 @@ use Rattle.plan_turn.specs.Turn.{Turn, Stuck, Auto, Element, Desliced, Member}
 use Rattle.plan_settling.specs.Line as line
 use Rattle.plan_settling.specs.Line.{Line}
 use Rattle.plan_settling.specs.Settling.{Settled, settleOtherwise, lineOf, settleBy, settle}
-use Rattle.symbol_members.specs.Stored.{Stored, typed, absent}
+use Rattle.symbol_members.specs.Member.{Stored, typed, absent}
 use Rattle.symbol_members.specs.Members.{members}
 use Rattle.plan_rounds.specs.Rounds.{Rounds, ended, stopped, stepsOf, takenBy, memberType, goes, turnAt, onward, inRounds}
 use Rattle.plan_report.specs.Plan.{Plan}

@@ -15,14 +15,14 @@ use Rattle.type_layers.specs.Answer.{given}
 use Rattle.type_layers.proofs.Decide.{both}
 use Rattle.type_checks.specs.Check.{goodLayer}
 use Rattle.type_checks.proofs.Accepted.{goodLayers}
-use Rattle.type_wellformed.specs.Formed.{wellFormed}
-use Rattle.relation_equals.specs.Equalities.{identical}
+use Rattle.type_wellformed.specs.WellFormed.{wellFormed}
+use Rattle.relation_equals.specs.Equals.{identical}
 use Rattle.relation_equals.proofs.Theorems.{identical-equal}
 use Rattle.plan_steps.specs.Steps.{Step, goodSteps}
 use Rattle.plan_steps.proofs.Words.{good-append}
 use Rattle.plan_settling.specs.Settling.{Settled, pointer, settle}
 use Rattle.plan_settling.proofs.Lines.{lines}
-use Rattle.symbol_members.specs.Stored.{Stored, typed}
+use Rattle.symbol_members.specs.Member.{Stored, typed}
 use Rattle.walker_rule.specs.Walker.{at, walker, arrives}
 use Rattle.walker_rule.proofs.Where.{at-is}
 use Rattle.plan_rounds.specs.Rounds.{ended, inRounds}

@@ -15,7 +15,7 @@ use Rattle.type_layers.specs.declared.answers.Checked.{Checked}
 use Rattle.type_layers.specs.declared.answers.Checked.the-variants.{Good, Refused}
 use Rattle.type_layers.proofs.Given.{not-given}
 use Rattle.type_checks.proofs.Accepted.{accepted-whole}
-use Rattle.type_wellformed.specs.Formed.{wellFormed}
+use Rattle.type_wellformed.specs.WellFormed.{wellFormed}
 use Rattle.symbol_columns.specs.declared.symbol.Symbol.{Symbol}
 use Rattle.symbol_columns.specs.Rows.{readFrom}
 use Rattle.symbol_lent.specs.Gathered.{gathered}

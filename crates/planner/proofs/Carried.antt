@@ -33,12 +33,12 @@ use Rattle.write_words.proofs.Writing.{fits}
 use Rattle.symbol_columns.specs.declared.symbol.Symbol.{Symbol}
 use Rattle.symbol_columns.specs.Rows as rows
 use Rattle.symbol_columns.specs.Rows.{vacant}
-use Rattle.symbol_columns.specs.Stored.{slotWords, storedWords}
+use Rattle.symbol_columns.specs.StoredWords.{slotWords, storedWords}
 use Rattle.symbol_search.specs.Search.{slotFor}
 use Rattle.symbol_order.specs.Order.{inOrder}
 use Rattle.plan_steps.specs.Steps.{steps, stepWords, goodSteps, stepsAnswer}
 use Rattle.plan_steps.proofs.Words.{words-length, words-back, words-whole}
-use Rattle.symbol_members.specs.Stored.{Stored, typed, absent}
+use Rattle.symbol_members.specs.Member.{Stored, typed, absent}
 use Rattle.symbol_members.specs.Members.{ofLayers, members, memberWords}
 use Rattle.symbol_members.proofs.Storing.{stored-good, member-whole}
 use Rattle.plan_rounds.proofs.Finishing.{whole-few}
@@ -54,7 +54,7 @@ use Rattle.planner.proofs.Asking.{passed}
 use Rattle.planner.proofs.Sound.{Passing}
 use Rattle.planner.proofs.Arrives.{demand, reported}
 use Rattle.planner.proofs.Answered.{not-refused}
-use Rattle.planner.proofs.lent_table.autoderef as autoderef
+use Rattle.planner.proofs.autoderef_lent.autoderef as autoderef
 
 -- the layers of every member of a table in order are good
 good-words : (ws : List ℕ) (x : Answer ℕ) → checkOf ws ≡ x → isGiven x ≡ true → goodLayers (layers ws) ≡ true

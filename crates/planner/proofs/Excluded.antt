@@ -16,8 +16,8 @@ use Rattle.type_layers.specs.Layers.{Layer, layer, outer, inside}
 use Rattle.type_layers.specs.Answer.{given}
 use Rattle.type_parts.specs.Parts.{references}
 use Rattle.type_size_and_depth.specs.Depth.{pointerDepth}
-use Rattle.relation_equals.specs.Equalities.{identical, plain, equals}
-use Rattle.relation_coerces.specs.Coercions.{coerces, addressCoerces}
+use Rattle.relation_equals.specs.Equals.{identical, plain, equals}
+use Rattle.relation_coerces.specs.Coerces.{coerces, addressCoerces}
 use Rattle.type_numbers.specs.StepKind as of-step
 use Rattle.type_numbers.specs.Mark as of-mark
 use Rattle.plan_steps.specs.Steps.{Step, step, goodStep, goodSteps}
@@ -25,7 +25,7 @@ use Rattle.plan_settling.specs.Line as line
 use Rattle.plan_settling.specs.Line.{Line}
 use Rattle.plan_settling.specs.Settling.{Settled, settleOtherwise, lineOf}
 use Rattle.plan_settling.proofs.Lines.{seventh}
-use Rattle.symbol_members.specs.Stored.{Stored, typed, absent}
+use Rattle.symbol_members.specs.Member.{Stored, typed, absent}
 use Rattle.walker_rule.specs.Walker.{Where, at, stuck, act, walker, arrives}
 use Rattle.walker_rule.proofs.Where.{typeAt}
 use Rattle.plan_report.specs.Plan.{Plan}

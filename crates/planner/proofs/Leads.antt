@@ -9,14 +9,14 @@ use lib.Dec.{eqb, leb}
 use lib.ListN.{take, drop}
 use Rattle.type_layers.specs.Layers.{Layer, outer, inside}
 use Rattle.type_layers.specs.Answer.{given, refused}
-use Rattle.type_wellformed.specs.Formed.{wellFormed}
+use Rattle.type_wellformed.specs.WellFormed.{wellFormed}
 use Rattle.type_numbers.specs.StepKind as of-step
 use Rattle.plan_steps.specs.Steps.{Step, isHandle, goodStep, goodSteps}
 use Rattle.plan_turn.specs.Turn.{Turn}
 use Rattle.type_layers.proofs.Decide.{both}
 use Rattle.type_layers.proofs.Given.{not-given, given-is}
 use Rattle.plan_turn.proofs.Cases.{cases}
-use Rattle.symbol_members.specs.Stored.{Stored, typed, absent}
+use Rattle.symbol_members.specs.Member.{Stored, typed, absent}
 use Rattle.walker_rule.specs.Walker.{at, act, walker}
 use Rattle.plan_rounds.proofs.Going.{one-in, two-in}
 use Rattle.plan_rounds.specs.Rounds.{stepsOf, takenBy, memberType, goes, turnAt}

@@ -10,10 +10,10 @@ use borrow.Author.Tests.{ltb-false}
 use Rattle.type_layers.specs.Layers.{Layer}
 use Rattle.type_layers.specs.Answer.{Answer, given, nothing, refused}
 use Rattle.type_layers.proofs.Given.{not-given, nothing-given, given-is}
-use Rattle.type_wellformed.specs.Formed.{wellFormed}
+use Rattle.type_wellformed.specs.WellFormed.{wellFormed}
 use Rattle.plan_steps.specs.Steps.{Step}
 use Rattle.plan_settling.specs.Settling.{Settled, settle}
-use Rattle.symbol_members.specs.Stored.{Stored}
+use Rattle.symbol_members.specs.Member.{Stored}
 use Rattle.plan_rounds.specs.Rounds.{Rounds, ended, stopped, inRounds}
 use Rattle.plan_rounds.specs.Settled.{withSettling, settleRounds}
 use Rattle.plan_report.specs.Plan.{Plan}

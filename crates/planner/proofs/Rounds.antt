@@ -17,7 +17,7 @@ use Rattle.type_numbers.specs.StepKind as of-step
 use Rattle.plan_steps.specs.Steps.{Step, goodStep, goodSteps}
 use Rattle.plan_steps.proofs.Words.{good-append}
 use Rattle.type_layers.proofs.Decide.{both}
-use Rattle.symbol_members.specs.Stored.{Stored}
+use Rattle.symbol_members.specs.Member.{Stored}
 use Rattle.walker_rule.specs.Walker.{Where, at, stuck, act, then, walker}
 use Rattle.plan_rounds.specs.Rounds.{Rounds, ended, stopped, stepsOf, takenBy, goes, turnAt, prepend, onward, inRounds}
 use Rattle.plan_turn.specs.Turn.{Turn, Stuck, Auto, Element, Desliced, Member}

@@ -17,7 +17,7 @@ use Rattle.type_layers.specs.Answer.{given}
 use Rattle.type_checks.specs.Check.{goodLayer}
 use Rattle.type_parts.specs.Parts.{references}
 use Rattle.type_size_and_depth.specs.Depth.{pointerDepth}
-use Rattle.type_wellformed.specs.Formed.{inner, wellFormed}
+use Rattle.type_wellformed.specs.WellFormed.{inner, wellFormed}
 use Rattle.relation_equals.proofs.Theorems.{identical-equal}
 use Rattle.type_layers.proofs.Decide.{both}
 use Rattle.type_numbers.specs.StepKind as of-step
@@ -25,7 +25,7 @@ use Rattle.plan_steps.specs.Steps.{Step, step, goodStep, goodSteps}
 use Rattle.plan_settling.specs.Line as line
 use Rattle.plan_settling.specs.Settling.{Settled, settled, pointer, dereferenced, settleOtherwise, lineOf, settleBy, settle}
 use Rattle.plan_settling.proofs.Lines.{lines, seventh}
-use Rattle.symbol_members.specs.Stored.{Stored}
+use Rattle.symbol_members.specs.Member.{Stored}
 use Rattle.walker_rule.specs.Walker.{at, act, walker, arrives}
 use Rattle.walker_rule.proofs.Where.{at-is}
 use Rattle.planner.specs.Demand.{asked}

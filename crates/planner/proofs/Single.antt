@@ -17,7 +17,7 @@ use borrow.Fn.Kinds.{Dens, resT, endedOf}
 use Rattle.symbol_columns.proofs.Single.{Walked}
 use Rattle.planner.proofs.plan_checks.plan_among.Kinds.{ps, r}
 use Rattle.planner.proofs.plan_checks.plan_among.Reads.{Post}
-use Rattle.planner.proofs.lent_table.autoderef as autoderef
+use Rattle.planner.proofs.autoderef_lent.autoderef as autoderef
 
 pub plan-among-single : (κs : Lfts 5) (a : Dens κs ps) (x y : resT r κs .Denot) (s t : AtExit (endedOf 5 ps r) κs) → Post κs a x s → Post κs a y t →
     (x ≡ y) × (now (s .1 .1 .1 .1 .1 .1 .1 .1 .0) ≡ now (t .1 .1 .1 .1 .1 .1 .1 .1 .0)) × (now (s .1 .1 .1 .1 .1 .1 .1 .1 .1 .0) ≡ now (t .1 .1 .1 .1 .1 .1 .1 .1 .1 .0))

@@ -15,11 +15,11 @@ use Rattle.type_layers.specs.Answer.{given, refused}
 use Rattle.type_checks.specs.Check.{goodLayer}
 use Rattle.type_checks.proofs.Accepted.{goodLayers}
 use Rattle.type_layers.proofs.Decide.{both}
-use Rattle.type_wellformed.specs.Formed.{inner, element, wellFormed}
+use Rattle.type_wellformed.specs.WellFormed.{inner, element, wellFormed}
 use Rattle.plan_steps.specs.Steps.{Step}
 use Rattle.type_layers.proofs.Given.{not-given, given-is}
 use Rattle.plan_turn.proofs.Cases.{cases}
-use Rattle.symbol_members.specs.Stored.{Stored, typed, absent}
+use Rattle.symbol_members.specs.Member.{Stored, typed, absent}
 use Rattle.plan_rounds.specs.Rounds.{ended, goes, turnAt, memberType, inRounds}
 use Rattle.planner.proofs.Leads.{reached}
 use Rattle.plan_rounds.proofs.Going.{one-in, two-in}

@@ -10,15 +10,15 @@ use Rattle.type_layers.specs.Layers.{Layer, layer, outer, inside}
 use Rattle.type_layers.specs.Answer.{Answer, given, nothing, refused}
 use Rattle.type_parts.specs.Parts.{references}
 use Rattle.type_size_and_depth.specs.Depth.{pointerDepth}
-use Rattle.type_wellformed.specs.Formed.{inner, element, wellFormed}
-use Rattle.relation_equals.specs.Equalities.{identical, plain, equals}
-use Rattle.relation_coerces.specs.Coercions.{coerces, addressCoerces, viewAutoderefs, autoderefs}
-use Rattle.plan_turn.specs.Turns.{turn}
+use Rattle.type_wellformed.specs.WellFormed.{inner, element, wellFormed}
+use Rattle.relation_equals.specs.Equals.{identical, plain, equals}
+use Rattle.relation_coerces.specs.Coerces.{coerces, addressCoerces, viewAutoderefs, autoderefs}
+use Rattle.plan_turn.specs.Round.{turn}
 use Rattle.type_numbers.specs.StepKind as of-step
 use Rattle.plan_steps.specs.Steps.{step}
 use Rattle.plan_settling.specs.Settling.{pointer, settleOtherwise, lineOf, settleBy, settle}
 use Rattle.plan_rounds.specs.Rounds.{inRounds}
-use Rattle.symbol_members.specs.Stored.{typed, absent}
+use Rattle.symbol_members.specs.Member.{typed, absent}
 use Rattle.walker_rule.specs.Walker.{walker}
 use Rattle.plan_report.specs.Plan.{Plan}
 use Rattle.planner.specs.Plan.{planOf}

@@ -14,7 +14,7 @@ use Rattle.type_numbers.specs.StepKind as of-step
 use Rattle.plan_steps.specs.Steps.{Step, step, goodSteps}
 use Rattle.plan_settling.specs.Line as line
 use Rattle.plan_settling.specs.Settling.{lineOf}
-use Rattle.symbol_members.specs.Stored.{Stored}
+use Rattle.symbol_members.specs.Member.{Stored}
 use Rattle.walker_rule.specs.Walker.{at, walker, arrives}
 use Rattle.plan_report.specs.Plan.{Plan}
 

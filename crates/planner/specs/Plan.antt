@@ -5,9 +5,9 @@ use Prim.Native.Nat.{ℕ}
 use Rattle.type_numbers.specs.Refusal as refusal
 use Rattle.type_layers.specs.Layers.{Layer}
 use Rattle.type_layers.specs.Answer.{Answer, refused}
-use Rattle.type_wellformed.specs.Formed.{wellFormed}
+use Rattle.type_wellformed.specs.WellFormed.{wellFormed}
 use Rattle.plan_steps.specs.Steps.{Step}
-use Rattle.symbol_members.specs.Stored.{Stored}
+use Rattle.symbol_members.specs.Member.{Stored}
 use Rattle.plan_report.specs.Plan.{Plan}
 use Rattle.plan_rounds.specs.Rounds.{inRounds}
 use Rattle.plan_rounds.specs.Settled.{settleRounds}

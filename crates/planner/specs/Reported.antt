@@ -7,11 +7,11 @@ use Prim.Native.Nat.{ℕ}
 use Rattle.type_layers.specs.Layers.{Layer}
 use Rattle.type_layers.specs.Answer.{given}
 use Rattle.type_size_and_depth.specs.Depth.{pointerDepth}
-use Rattle.relation_coerces.specs.Coercions.{coerces, addressCoerces}
+use Rattle.relation_coerces.specs.Coerces.{coerces, addressCoerces}
 use Rattle.plan_steps.specs.Steps.{Step}
 use Rattle.plan_settling.specs.Line as line
 use Rattle.plan_settling.specs.Settling.{pointer, settled, settleOtherwise, lineOf}
-use Rattle.symbol_members.specs.Stored.{Stored}
+use Rattle.symbol_members.specs.Member.{Stored}
 use Rattle.walker_rule.specs.Walker.{at, walker}
 use Rattle.plan_report.specs.Plan.{Plan}
 

@@ -1,7 +1,7 @@
 // The plan for any words, tables and numbers, and the theorem of the third demand. In the Rust: `autoderef`.
-mod lent_table;
+mod autoderef_lent;
 mod plan_checks;
 
-pub use lent_table::autoderef;
+pub use autoderef_lent::autoderef;
 pub use plan_checks::plan_among;
 pub use plan_report::Report;

@@ -6,8 +6,8 @@ use mathlib.Core.List.{List}
 use Prim.Native.Nat.{ℕ}
 use Rattle.type_layers.specs.Layers.{layers, outer, innerWords}
 use Rattle.type_layers.proofs.Words.{inner-layers}
-use Rattle.relation_equals.specs.Equalities.{identical, equals}
-use Rattle.relation_coerces.specs.Coercions.{intoSlice, intoEndlessArray, structIntoView, coerces, addressIntoSlicePointer, addressIntoEndlessArray, addressCoerces}
+use Rattle.relation_equals.specs.Equals.{identical, equals}
+use Rattle.relation_coerces.specs.Coerces.{intoSlice, intoEndlessArray, structIntoView, coerces, addressIntoSlicePointer, addressIntoEndlessArray, addressCoerces}
 
 -- k and l are the outer kinds of a and b, d and c are what they hold, m is the outer kind of c
 module _ (a b c d : List ℕ) (k l : ℕ) (f r : Bool) (p : k ≡ outer (layers a)) (q : l ≡ outer (layers b))

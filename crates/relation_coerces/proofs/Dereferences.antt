@@ -10,8 +10,8 @@ use borrow.Author.Tests.{eq-eqb, ne-eqb}
 use Rattle.type_numbers.specs.Kind as kind
 use Rattle.type_layers.specs.Layers.{Layer, layers, outer, inside, innerWords, isReference}
 use Rattle.type_layers.proofs.Words.{rest, none, more, inner-layers}
-use Rattle.relation_equals.specs.Equalities.{equals}
-use Rattle.relation_coerces.specs.Coercions.{coerces, addressCoerces, subautoderefs, isArrayOrStruct, viewAutoderefs, pointerAutoderefs, autoderefs}
+use Rattle.relation_equals.specs.Equals.{equals}
+use Rattle.relation_coerces.specs.Coerces.{coerces, addressCoerces, subautoderefs, isArrayOrStruct, viewAutoderefs, pointerAutoderefs, autoderefs}
 
 -- "or", where the code holds the first test's outcome
 pub or-yes : (f x y : Bool) → f ≡ x → f ≡ true → f ≡ (x || y)

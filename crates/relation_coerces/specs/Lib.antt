@@ -1,1 +1,1 @@
-pub mod Coercions
+pub mod Coerces

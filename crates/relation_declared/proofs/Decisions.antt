@@ -9,9 +9,9 @@ use lib.ListN.{length, getD}
 use Rattle.type_numbers.specs.Kind as kind
 use Rattle.type_layers.specs.Layers.{isSlice, layers, head, outer, innerWords}
 use Rattle.type_layers.proofs.Words.{rest, none, more, inner-layers}
-use Rattle.relation_equals.specs.Equalities.{identical}
+use Rattle.relation_equals.specs.Equals.{identical}
 use Rattle.relation_equals.proofs.Steps.{no-layer}
-use Rattle.relation_declared.specs.Relations.{like, declared, declaresArraylike, slicePointerMeetsPointer, concretization, sameHolder, arrayMeetsArraylike, meetsArraylike, resolves}
+use Rattle.relation_declared.specs.Declared.{like, declared, declaresArraylike, slicePointerMeetsPointer, concretization, sameHolder, arrayMeetsArraylike, meetsArraylike, resolves}
 
 -- where the code holds the outcome of a test
 pub meets-by : (k l : ℕ) (f g : Bool) → f ≡ arrayMeetsArraylike k l → g ≡ isSlice k → (f || g && eqb l kind.arraylike) ≡ meetsArraylike k l

@@ -9,9 +9,9 @@ use borrow.Author.Tests.{eqb-true}
 use Rattle.type_numbers.specs.Kind as kind
 use Rattle.type_layers.specs.Layers.{Layer, outer, inside, isSlice, holdsInner}
 use Rattle.type_layers.proofs.Decide.{both}
-use Rattle.relation_equals.specs.Equalities.{identical}
+use Rattle.relation_equals.specs.Equals.{identical}
 use Rattle.relation_equals.proofs.Theorems.{identical-equal, identical-reflexive}
-use Rattle.relation_declared.specs.Relations.{arrayMeetsArraylike, like, declaresArraylike, slicePointerMeetsPointer, declared, sameHolder, meetsArraylike, resolves, concretization}
+use Rattle.relation_declared.specs.Declared.{arrayMeetsArraylike, like, declaresArraylike, slicePointerMeetsPointer, declared, sameHolder, meetsArraylike, resolves, concretization}
 
 -- A kind isn't both one that a test holds of and another.
 other : (test : ℕ → Bool) (k l : ℕ) → test l ≡ false → (test k && eqb k l) ≡ false

@@ -11,7 +11,7 @@ ghost use mathlib.Core.Path.{_≡_};
 ghost use Prim.Native.Nat.{_≤_};
 ghost use lib.ListN.{length};
 ghost use Rattle.type_layers.specs.Layers.{layers, head};
-ghost use Rattle.relation_declared.specs.Relations as rules;
+ghost use Rattle.relation_declared.specs.Declared as rules;
 
 // The same outer kind that holds an inner type, with the same length or name.
 fn same_holder(a: &[u64], b: &[u64]) -> bool

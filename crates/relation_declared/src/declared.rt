@@ -4,7 +4,7 @@ use type_layers::outer;
 use type_numbers::Kind;
 ghost use mathlib.Core.Path.{_≡_};
 ghost use Rattle.type_layers.specs.Layers.{layers};
-ghost use Rattle.relation_declared.specs.Relations as rules;
+ghost use Rattle.relation_declared.specs.Declared as rules;
 
 fn declares_arraylike(k: u64, l: u64) -> bool
     ensures { λ r. ⌜ r ≡ rules.declaresArraylike k l ⌝ }

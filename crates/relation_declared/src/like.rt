@@ -2,7 +2,7 @@ use relation_equals::identical;
 use type_numbers::Kind;
 ghost use mathlib.Core.Path.{_≡_};
 ghost use Rattle.type_layers.specs.Layers.{layers};
-ghost use Rattle.relation_declared.specs.Relations as rules;
+ghost use Rattle.relation_declared.specs.Declared as rules;
 
 pub(crate) fn array_meets_arraylike(k: u64, l: u64) -> bool
     ensures { λ r. ⌜ r ≡ rules.arrayMeetsArraylike k l ⌝ }

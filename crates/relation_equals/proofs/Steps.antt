@@ -12,7 +12,7 @@ use Rattle.type_numbers.specs.Kind as kind
 use Rattle.type_layers.specs.Layers.{Layer, layers, head}
 use Rattle.type_layers.proofs.Words.{rest, none, more}
 use Rattle.type_layers.proofs.Decide.{eqb-sym}
-use Rattle.relation_equals.specs.Equalities.{sameLayer, identical, plainKind, plainLayer, plain, equals}
+use Rattle.relation_equals.specs.Equals.{sameLayer, identical, plainKind, plainLayer, plain, equals}
 
 pub no-layer : (b : List ℕ) → ltb (length b) 3 ≡ identical [] (layers b)
 unfolding identical layers

@@ -7,7 +7,7 @@ use lib.Dec.{eqb}
 use borrow.Author.Tests.{eq-eqb, eqb-true}
 use Rattle.type_layers.specs.Layers.{Layer, layer}
 use Rattle.type_layers.proofs.Decide.{both}
-use Rattle.relation_equals.specs.Equalities.{sameLayer, identical, plain, equals}
+use Rattle.relation_equals.specs.Equals.{sameLayer, identical, plain, equals}
 
 same-layers : (x y : Layer) → sameLayer x y ≡ true → x ≡ y
 same-layers x y e =

@@ -1,1 +1,1 @@
-pub mod Equalities
+pub mod Equals

@@ -6,7 +6,7 @@ ghost use lib.Dec.{eqb};
 ghost use lib.ListN.{length};
 ghost use Rattle.type_numbers.specs.Kind as kind;
 ghost use Rattle.type_layers.specs.Layers.{layers, head};
-ghost use Rattle.relation_equals.specs.Equalities as rules;
+ghost use Rattle.relation_equals.specs.Equals as rules;
 
 fn same_layer(a: &[u64], b: &[u64]) -> bool
     requires { ⌜ (3 ≤ length (now a)) × (3 ≤ length (now b)) ⌝ }

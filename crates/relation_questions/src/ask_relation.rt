@@ -9,7 +9,7 @@ use type_layers::Verdict;
 ghost use mathlib.Core.Path.{_≡_};
 ghost use Rattle.type_layers.specs.Layers.{layers};
 ghost use Rattle.type_layers.specs.Answer.{ofVerdict};
-ghost use Rattle.relation_questions.specs.Answers as answers;
+ghost use Rattle.relation_questions.specs.Questions as answers;
 
 // The relations that can be asked for.
 pub enum Relation {

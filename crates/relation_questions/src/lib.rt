@@ -1,4 +1,4 @@
-// Each of these asked of any words.
+// Each relation, asked of any words.
 mod ask_coercion;
 mod ask_relation;
 

@@ -1,7 +1,7 @@
 use type_numbers::Limit;
 ghost use mathlib.Core.Path.{_≡_};
 ghost use mathlib.Core.Bool.{cond};
-ghost use Prim.Native.Nat.{_≤_};
+ghost use Prim.Native.Nat.{_*_, _≤_};
 ghost use lib.ListN.{length};
 ghost use Rattle.type_numbers.specs.Limit as limit;
 ghost use Rattle.sheet_contents.specs.Contents as sheet;
@@ -17,7 +17,7 @@ fn up_to(most: u64, n: u64) -> bool
 fn total(counts: &[u64]) -> usize
     requires { ⌜ length (now counts) ≤ limit.sheetTypes ⌝ }
     ensures is { λ r. ⌜ r ≡ cond (sheet.goodCounts (now (counts .entry))) (sheet.total (now (counts .entry))) 0 ⌝ }
-    ensures few { λ r. ⌜ r ≤ 512 ⌝ }
+    ensures few { λ r. ⌜ r ≤ limit.sheetTypes * limit.layers ⌝ }
 {
     let mut sum = 0;
     let mut i = 0;

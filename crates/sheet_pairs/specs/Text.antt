@@ -5,9 +5,9 @@ use Prim.Native.Nat.{ℕ, _+_}
 use Rattle.sheet_text.specs.Put.{decimal}
 use Rattle.type_layers.specs.Answer.{Answer, given, nothing, refused}
 use Rattle.type_layers.specs.Layers.{layers}
-use Rattle.relation_equals.specs.Equalities.{equals}
-use Rattle.relation_declared.specs.Relations as relation
-use Rattle.relation_coerces.specs.Coercions as coercion
+use Rattle.relation_equals.specs.Equals.{equals}
+use Rattle.relation_declared.specs.Declared as relation
+use Rattle.relation_coerces.specs.Coerces as coercion
 use Rattle.sheet_words.specs.Little.{wholeWords}
 use Rattle.sheet_contents.specs.Contents.{types}
 use Rattle.sheet_read.specs.Sheet.{readSheet}

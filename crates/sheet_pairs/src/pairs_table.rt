@@ -16,7 +16,7 @@ ghost use Rattle.sheet_contents.specs.Contents.{types, typeAt};
 ghost use Rattle.sheet_text.specs.Put.{putAt};
 ghost use Rattle.sheet_pairs.specs.Text as text;
 
-// Puts the lines of one left type against each of the n types of a sheet.
+// Puts the lines of one left type against each of the n types of a sheet: 32 of 18 bytes at most.
 fn put_row(out: &mut [u8], at: usize, words: &[u64], n: usize, i: usize) -> usize
     requires { ⌜ (at + 576 ≤ length (now out)) × (n ≤ limit.sheetTypes) × (i < limit.sheetTypes) × (n ≡ length (types (now words))) ⌝ }
     ensures next { λ r. ⌜ r ≡ at + length (text.row (types (now (words .entry))) (i + 1) (typeAt i (now (words .entry)))) ⌝ }
@@ -60,7 +60,7 @@ fn put_refusal(out: &mut [u8], number: u64) -> usize
 
 // Puts the header and the lines of a sheet of n types.
 fn put_table(out: &mut [u8], words: &[u64], n: usize) -> usize
-    requires { ⌜ (18494 ≤ length (now out)) × (n ≤ limit.sheetTypes) × (n ≡ length (types (now words))) ⌝ }
+    requires { ⌜ (limit.pairsBytes ≤ length (now out)) × (n ≤ limit.sheetTypes) × (n ≡ length (types (now words))) ⌝ }
     ensures next { λ r. ⌜ r ≡ length (text.header ++ text.rows (types (now (words .entry)))) ⌝ }
     ensures text { λ _. ⌜ now (out .exit) ≡ putAt 0 (text.header ++ text.rows (types (now (words .entry)))) (now (out .entry)) ⌝ }
 {

@@ -3,6 +3,7 @@ ghost use mathlib.Core.Path.{_≡_};
 ghost use mathlib.Core.List.{[], _∷_};
 ghost use Prim.Native.Nat.{_+_, _*_, _/_, _≤_};
 ghost use lib.ListN.{length, drop, replicate, take};
+ghost use Rattle.type_numbers.specs.Limit as limit;
 ghost use Rattle.write_words.specs.Written.{written};
 ghost use Rattle.sheet_words.specs.Little.{little, wholeWords};
 
@@ -34,7 +35,7 @@ fn word_at(bytes: &[u8], at: usize) -> u64
 
 // The whole words of the bytes, and zeros behind them; zeros alone where they are more than any sheet has.
 pub fn words_of(bytes: &[u8]) -> [u64; Limit::SHEET_WORDS]
-    ensures { λ r. ⌜ r ≡ written (wholeWords (now (bytes .entry))) (replicate 1569 0) ⌝ }
+    ensures { λ r. ⌜ r ≡ written (wholeWords (now (bytes .entry))) (replicate limit.sheetWords 0) ⌝ }
 {
     let mut words = [0; Limit::SHEET_WORDS];
     let n = bytes.len() / 8;

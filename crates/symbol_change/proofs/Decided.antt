@@ -23,12 +23,12 @@ use Rattle.symbol_operations.specs.declared.operation.Operation.{Operation}
 use Rattle.symbol_operations.specs.declared.operation.Asked.{Asked}
 use Rattle.symbol_operations.specs.declared.operation.Asked.the-variants as asked
 use Rattle.symbol_slot.specs.Way as way
-use Rattle.symbol_slot.specs.Ways.{wayOf, ofWay}
+use Rattle.symbol_slot.specs.Slot.{wayOf, ofWay}
 use Rattle.symbol_slot.specs.declared.slot.Way.{Way}
 use Rattle.symbol_slot.specs.declared.slot.Way.the-variants as code
 use Rattle.symbol_slot.proofs.Decided.{Within, found-in, found-has, new-in}
-use Rattle.symbol_record.specs.Deeds.{filled, filledWords, overwrites, seen}
-use Rattle.symbol_change.specs.Changes.{outcomeBy, nothingPut, outcome, nowhere, isChanged, inSlot, ifChanged, changeOf, storeOf}
+use Rattle.symbol_record.specs.Record.{filled, filledWords, overwrites, seen}
+use Rattle.symbol_change.specs.Change.{outcomeBy, nothingPut, outcome, nowhere, isChanged, inSlot, ifChanged, changeOf, storeOf}
 use Rattle.symbol_change.specs.declared.change.Change.{Change}
 
 -- a record that was found

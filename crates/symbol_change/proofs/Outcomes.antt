@@ -10,19 +10,19 @@ use lib.ListN.{length, getD, set}
 use borrow.Author.Tests.{eqb-true}
 use Rattle.symbol_columns.specs.declared.symbol.Symbol.{Symbol}
 use Rattle.symbol_columns.specs.Rows.{vacant}
-use Rattle.symbol_columns.specs.Stored.{slotWords}
+use Rattle.symbol_columns.specs.StoredWords.{slotWords}
 use Rattle.write_answer.specs.declared.answer.Answer.{Answer}
-use Rattle.symbol_update.specs.Updates.{updated}
+use Rattle.symbol_update.specs.Update.{updated}
 use Rattle.symbol_update.proofs.Theorems.{unchanged}
 use Rattle.symbol_operations.specs.Act as act
 use Rattle.symbol_operations.specs.Act.{Act}
 use Rattle.symbol_operations.specs.Operation.{Operation, putNothing, acts}
 use Rattle.symbol_slot.specs.Way as way
 use Rattle.symbol_slot.specs.Way.{Way}
-use Rattle.symbol_slot.specs.Ways.{wayOf}
+use Rattle.symbol_slot.specs.Slot.{wayOf}
 use Rattle.symbol_slot.proofs.Decided.{found-in, new-in}
-use Rattle.symbol_record.specs.Deeds.{Deed, overwrites, seen}
-use Rattle.symbol_change.specs.Changes.{outcomeBy, outcome, nowhere, inSlot, isChanged, changeBy, changeOf, storeOf}
+use Rattle.symbol_record.specs.Record.{Deed, overwrites, seen}
+use Rattle.symbol_change.specs.Change.{outcomeBy, outcome, nowhere, inSlot, isChanged, changeBy, changeOf, storeOf}
 use Rattle.symbol_change.specs.declared.change.Change.{Change}
 
 -- a list with one of its elements put in its place

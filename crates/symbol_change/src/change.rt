@@ -22,7 +22,7 @@ ghost use mathlib.Core.Path.{_≡_};
 ghost use Rattle.symbol_columns.specs.Rows.{readFrom};
 ghost use Rattle.symbol_operations.specs.Operation.{acts};
 ghost use Rattle.symbol_operations.specs.Operations.{ofAct, ofOperation};
-ghost use Rattle.symbol_change.specs.Changes as rules;
+ghost use Rattle.symbol_change.specs.Change as rules;
 
 // A slot and its new record, with the answer. Past the last slot: no record is stored.
 pub struct Change {

@@ -1,4 +1,4 @@
-// Both, for a table in columns: the slot, its new record, the answer.
+// An act on a table in columns: its slot, the new record, the answer.
 mod change;
 
 pub use change::Change;

@@ -8,7 +8,7 @@ use lib.ListN.{length, take, drop, drop-of-length-le}
 use lib.Seq.{take-all, take-nil, length-take-le}
 use borrow.Author.Tests.{lt-ltb, le-ltb}
 use Rattle.type_layers.proofs.Words.{part, part-is}
-use Rattle.symbol_columns.specs.Stored.{slotWords, storedWords}
+use Rattle.symbol_columns.specs.StoredWords.{slotWords, storedWords}
 
 -- the words of a slot
 module _ (store : List ℕ) (k : ℕ) where

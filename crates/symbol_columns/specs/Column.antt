@@ -1,4 +1,5 @@
--- Where each column of a table starts; the ids stand first. Each has room for as many records as a table may have.
+-- Where each column of a table starts; the ids stand first. Each has room for as many records as a
+-- table may have; the sums are written out, since the facts that the kit makes have them so.
 use Prim.Native.Nat.{ℕ}
 
 abbrev pub authority : ℕ

@@ -1,6 +1,6 @@
 use type_numbers::Limit;
 ghost use mathlib.Core.Path.{_≡_};
-ghost use Rattle.symbol_columns.specs.Stored.{slotWords, storedWords};
+ghost use Rattle.symbol_columns.specs.StoredWords.{slotWords, storedWords};
 
 // The words of a slot, in the store itself; those of them that are there.
 pub fn slot_words(store: &[u64], k: usize) -> &[u64]

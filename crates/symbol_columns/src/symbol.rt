@@ -4,7 +4,7 @@ pub struct Symbol {
     pub id: u32,
     pub authority: bool,
     pub place: u64,
-    // 0 free, 1 typed, 2 poisoned
+    // one of `State`
     pub state: u64,
     // of the stored type
     pub layers: u64,

@@ -9,14 +9,14 @@ use lib.ListN.{length, take, getD}
 use borrow.Author.Tests.{lt-leb, le-leb, leb-false, eq-eqb, ne-eqb, not-true, not-false}
 use Rattle.symbol_columns.specs.declared.symbol.Symbol.{Symbol}
 use Rattle.symbol_columns.specs.Rows.{vacant, readFrom, rowUnder}
-use Rattle.symbol_columns.specs.Stored.{slotWords, storedWords}
+use Rattle.symbol_columns.specs.StoredWords.{slotWords, storedWords}
 use Rattle.symbol_search.specs.Search.{slotFor, slotIn}
 use Rattle.symbol_order.specs.Order.{inOrder}
 use Rattle.symbol_columns.proofs.Reading.{length-read, row-found}
 use Rattle.symbol_search.proofs.Searching.{slot-has}
 use Rattle.symbol_order.proofs.Ordered.{ordered, few-rows, slot-there}
 use Rattle.write_answer.specs.declared.answer.Answer.{Answer}
-use Rattle.symbol_get.specs.Gets.{markFor, got, told, foundAfter, typeIn, typeOf, ofGot}
+use Rattle.symbol_get.specs.Get.{markFor, got, told, foundAfter, typeIn, typeOf, ofGot}
 use Rattle.symbol_get.specs.Got as got′
 use Rattle.symbol_get.specs.Got.{Got}
 use Rattle.symbol_get.specs.declared.get.Got as coded

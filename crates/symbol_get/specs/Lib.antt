@@ -1,2 +1,2 @@
 pub mod Got
-pub mod Gets
+pub mod Get

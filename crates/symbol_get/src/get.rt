@@ -11,7 +11,7 @@ use write_answer::accepted;
 use write_answer::refused;
 ghost use mathlib.Core.Path.{_≡_};
 ghost use Rattle.symbol_columns.specs.Rows.{readFrom};
-ghost use Rattle.symbol_get.specs.Gets as rules;
+ghost use Rattle.symbol_get.specs.Get as rules;
 
 // What stands under a name: nothing, a type in a slot, or poison with its mark.
 pub enum Got {
@@ -54,7 +54,7 @@ fn tell(got: Got, found: &mut u64) -> Answer
     ensures written { λ _. ⌜ now (found .exit) ≡ rules.foundAfter (rules.ofGot got) (now (found .entry)) ⌝ }
 {
     match got {
-        Got::Absent => accepted(State::FREE),
+        Got::Absent => accepted(0),
         Got::Typed(at) => {
             *found = at as u64;
             accepted(State::TYPED)

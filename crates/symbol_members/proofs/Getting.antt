@@ -12,14 +12,14 @@ use Rattle.type_layers.specs.Layers.{layers}
 use Rattle.type_checks.specs.Check.{checkOf}
 use Rattle.symbol_columns.specs.declared.symbol.Symbol.{Symbol}
 use Rattle.symbol_columns.specs.Rows.{vacant, typed}
-use Rattle.symbol_columns.specs.Stored.{slotWords, storedWords}
+use Rattle.symbol_columns.specs.StoredWords.{slotWords, storedWords}
 use Rattle.symbol_search.specs.Search.{slotFor}
 use Rattle.symbol_order.specs.Order.{inOrder}
 use Rattle.symbol_get.specs.Got as got′
 use Rattle.symbol_get.specs.Got.{Got}
-use Rattle.symbol_get.specs.Gets.{markFor, got, typeIn}
-use Rattle.symbol_members.specs.Stored as stored
-use Rattle.symbol_members.specs.Stored.{Stored}
+use Rattle.symbol_get.specs.Get.{markFor, got, typeIn}
+use Rattle.symbol_members.specs.Member as stored
+use Rattle.symbol_members.specs.Member.{Stored}
 use Rattle.symbol_members.specs.Members.{wordsAt, ofLayers, memberWords, members}
 use Rattle.symbol_members.proofs.Storing.{stored-good}
 

@@ -13,7 +13,7 @@ use Rattle.type_layers.specs.Layers.{Whole}
 use Rattle.type_checks.specs.Check.{checkOf}
 use Rattle.type_checks.proofs.Accepted.{good-whole}
 use Rattle.symbol_columns.specs.Rows.{vacant, rowAt, readFrom, typed}
-use Rattle.symbol_columns.specs.Stored.{slotWords, storedWords}
+use Rattle.symbol_columns.specs.StoredWords.{slotWords, storedWords}
 use Rattle.symbol_search.specs.Search.{slotIn, slotFor}
 use Rattle.symbol_order.specs.Order.{passes, inOrder}
 use Rattle.symbol_columns.specs.declared.symbol.Symbol.{Symbol}

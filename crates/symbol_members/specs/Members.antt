@@ -1,4 +1,4 @@
--- "Member from Struct or Word to the table's type": what a table has of a member. "A member is found by its id alone".
+-- "Member from Struct or Word to the table's type": what a table has of a member. A member is found by its id alone.
 use mathlib.Core.Bool.{cond}
 use mathlib.Core.List.{List, [], _∷_}
 use Prim.Native.Nat.{ℕ}
@@ -8,10 +8,10 @@ use Rattle.type_numbers.specs.Limit as limit
 use Rattle.type_layers.specs.Layers.{Layer, layers}
 use Rattle.symbol_columns.specs.declared.symbol.Symbol.{Symbol}
 use Rattle.symbol_columns.specs.Rows.{vacant, readFrom, typed}
-use Rattle.symbol_columns.specs.Stored.{slotWords, storedWords}
+use Rattle.symbol_columns.specs.StoredWords.{slotWords, storedWords}
 use Rattle.symbol_search.specs.Search.{slotFor}
-use Rattle.symbol_members.specs.Stored as stored
-use Rattle.symbol_members.specs.Stored.{Stored}
+use Rattle.symbol_members.specs.Member as stored
+use Rattle.symbol_members.specs.Member.{Stored}
 
 -- The words of the record's type, which stand first in its slot; a poisoned record has none.
 abbrev pub wordsAt : Symbol → List ℕ → List ℕ

@@ -15,7 +15,7 @@ use Rattle.type_layers.specs.Answer.{isGiven}
 use Rattle.type_layers.proofs.Decide.{both, neither, eqb-sym}
 use Rattle.symbol_columns.specs.declared.symbol.Symbol.{Symbol}
 use Rattle.symbol_columns.specs.Rows.{free, rowAt, readFrom}
-use Rattle.symbol_columns.specs.Stored.{storedWords}
+use Rattle.symbol_columns.specs.StoredWords.{storedWords}
 use Rattle.type_checks.specs.Check.{checkOf}
 use Rattle.symbol_columns.proofs.Reading.{from, read-more, read-end, read-all, read-last, length-read}
 use Rattle.symbol_order.specs.Order.{knownStates, allFree, takenFirst, taken, hasId, repeats, passes, allPass, inOrder}

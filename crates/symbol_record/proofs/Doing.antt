@@ -8,11 +8,11 @@ use Rattle.write_words.specs.Written.{written}
 use Rattle.symbol_columns.specs.declared.symbol.Symbol.{Symbol}
 use Rattle.write_answer.specs.declared.answer.Answer.{Answer}
 use Rattle.symbol_update.specs.declared.update_record.Updated.{Updated}
-use Rattle.symbol_update.specs.Updates.{typed}
+use Rattle.symbol_update.specs.Update.{typed}
 use Rattle.symbol_operations.specs.Act as act
 use Rattle.symbol_operations.specs.Operations.{ofAct, offersType}
 use Rattle.symbol_operations.specs.declared.operation.Act.{Act}
-use Rattle.symbol_record.specs.Deeds.{poisoned, filled, filledWords, overwrites, seen}
+use Rattle.symbol_record.specs.Record.{poisoned, filled, filledWords, overwrites, seen}
 
 -- a record that is filled
 module _ (op : act.Act) (id : ℕ) (authority : Bool) (place mark : ℕ) (offered ws : List ℕ) (t : Bool) (e : t ≡ offersType op) where

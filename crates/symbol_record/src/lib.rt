@@ -1,4 +1,4 @@
-// What an act does to that record and to the words of its slot.
+// What an act does to its record and to the words of the slot.
 mod record;
 
 pub use record::fill;

@@ -10,7 +10,7 @@ use write_answer::accepted;
 use write_words::write_words;
 ghost use mathlib.Core.Path.{_≡_};
 ghost use Rattle.symbol_operations.specs.Operations.{ofAct};
-ghost use Rattle.symbol_record.specs.Deeds as rules;
+ghost use Rattle.symbol_record.specs.Record as rules;
 
 fn poisoned(id: u32, authority: bool, place: u64, mark: u64) -> Symbol
     ensures { λ r. ⌜ r ≡ rules.poisoned id authority place mark ⌝ }

@@ -22,7 +22,7 @@ use Rattle.symbol_operations.specs.Act.{Act}
 use Rattle.symbol_operations.specs.Operations.{offersType}
 use Rattle.symbol_slot.specs.Way as way
 use Rattle.symbol_slot.specs.Way.{Way}
-use Rattle.symbol_slot.specs.Ways.{offeredCheck, placeOf, unless, wayOf}
+use Rattle.symbol_slot.specs.Slot.{offeredCheck, placeOf, unless, wayOf}
 
 -- the checks of what is offered
 module _ (a : Act) (offered : List ℕ) (r : Checked) (t : Bool) (e : t ≡ offersType a) where

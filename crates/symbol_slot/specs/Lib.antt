@@ -1,2 +1,2 @@
 pub mod Way
-pub mod Ways
+pub mod Slot

@@ -11,7 +11,7 @@ ghost use mathlib.Core.Path.{_≡_};
 ghost use Rattle.type_layers.specs.Answer.{ofChecked};
 ghost use Rattle.symbol_columns.specs.Rows.{readFrom};
 ghost use Rattle.symbol_operations.specs.Operations.{ofAct};
-ghost use Rattle.symbol_slot.specs.Ways as rules;
+ghost use Rattle.symbol_slot.specs.Slot as rules;
 
 // The record that an act is about: the one that has the id, or the first free one.
 pub enum Way {

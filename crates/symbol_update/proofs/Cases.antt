@@ -9,7 +9,7 @@ use Rattle.write_answer.specs.declared.answer.Answer.{Answer}
 use Rattle.write_answer.specs.Flat.{accepted, notAccepted}
 use Rattle.symbol_update_rule.specs.Line as line
 use Rattle.symbol_update_rule.specs.Line.{Line}
-use Rattle.symbol_update.specs.Updates.{lineAt, answerBy, typed, recordBy, wordsBy, updated, wordsAfter}
+use Rattle.symbol_update.specs.Update.{lineAt, answerBy, typed, recordBy, wordsBy, updated, wordsAfter}
 
 module _ (s : Symbol) (ws : List ℕ) (id : ℕ) (authority : Bool) (place : ℕ) (offered : List ℕ) (P : Symbol → List ℕ → Answer → Type 0)
     (kept : P s ws (accepted 0)) (ill : P s ws (notAccepted 4 0))

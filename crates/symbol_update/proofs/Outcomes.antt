@@ -7,11 +7,11 @@ use Prim.Native.Nat.{ℕ}
 use lib.Dec.{eqb}
 use Rattle.type_layers.specs.Layers.{layers}
 use Rattle.symbol_columns.specs.declared.symbol.Symbol.{Symbol}
-use Rattle.symbol_columns.specs.Stored.{storedWords}
+use Rattle.symbol_columns.specs.StoredWords.{storedWords}
 use Rattle.write_answer.specs.declared.answer.Answer.{Answer}
-use Rattle.symbol_update_rule.specs.Rulings.{lineOf, ofLine}
+use Rattle.symbol_update_rule.specs.Rule.{lineOf, ofLine}
 use Rattle.symbol_update_rule.specs.declared.lines.Line.{Line}
-use Rattle.symbol_update.specs.Updates.{lineAt, recordBy, answerBy, wordsBy, updated, wordsAfter}
+use Rattle.symbol_update.specs.Update.{lineAt, recordBy, answerBy, wordsBy, updated, wordsAfter}
 
 -- l is what the code decided, and k the line that it found this to be
 module _ (s : Symbol) (ws : List ℕ) (authority : Bool) (offered part : List ℕ) (l k : Line) (p : part ≡ storedWords (s .layers) ws)

@@ -11,20 +11,20 @@ use lib.Seq.{take-append-seam}
 use borrow.Author.Tests.{eqb-true, le-ltb}
 use Rattle.type_layers.specs.Layers.{Layer, layers}
 use Rattle.type_layers.proofs.Decide.{both}
-use Rattle.type_wellformed.specs.Formed.{wellFormed}
-use Rattle.relation_equals.specs.Equalities.{identical}
-use Rattle.relation_declared.specs.Relations.{concretization}
+use Rattle.type_wellformed.specs.WellFormed.{wellFormed}
+use Rattle.relation_equals.specs.Equals.{identical}
+use Rattle.relation_declared.specs.Declared.{concretization}
 use Rattle.relation_equals.proofs.Theorems.{identical-reflexive}
 use Rattle.write_words.specs.Written.{written}
 use Rattle.write_words.proofs.Writing.{fits, length-written}
 use Rattle.symbol_columns.specs.declared.symbol.Symbol.{Symbol}
-use Rattle.symbol_columns.specs.Stored.{storedWords}
+use Rattle.symbol_columns.specs.StoredWords.{storedWords}
 use Rattle.write_answer.specs.Flat.{accepted}
-use Rattle.symbol_update_rule.specs.Rulings.{lineOf}
+use Rattle.symbol_update_rule.specs.Rule.{lineOf}
 use Rattle.symbol_update_rule.proofs.Known.{Knows, known}
 use Rattle.symbol_update_rule.specs.Line as line
 use Rattle.symbol_update_rule.specs.Line.{Line}
-use Rattle.symbol_update.specs.Updates.{answerBy, recordBy, wordsBy, lineAt, updated, wordsAfter}
+use Rattle.symbol_update.specs.Update.{answerBy, recordBy, wordsBy, lineAt, updated, wordsAfter}
 use Rattle.symbol_update.specs.declared.update_record.Updated.{Updated}
 
 -- What was written is what is stored.

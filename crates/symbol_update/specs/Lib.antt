@@ -1,1 +1,1 @@
-pub mod Updates
+pub mod Update

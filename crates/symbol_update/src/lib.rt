@@ -1,4 +1,4 @@
-// The update of one record with its words, by that line. In the Rust: in `do_update_symbol`.
+// The update of one record with its words, by the line that applies. In the Rust: in `do_update_symbol`.
 mod update_record;
 
 pub use update_record::Updated;

@@ -10,7 +10,7 @@ use write_answer::accepted;
 use write_answer::refused;
 use write_words::write_words;
 ghost use mathlib.Core.Path.{_≡_};
-ghost use Rattle.symbol_update.specs.Updates as rules;
+ghost use Rattle.symbol_update.specs.Update as rules;
 
 // What an update leaves in the record, and its answer.
 pub struct Updated {

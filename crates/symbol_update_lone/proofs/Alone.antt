@@ -17,10 +17,10 @@ use Rattle.type_layers.specs.declared.answers.Checked.{Checked}
 use Rattle.type_layers.specs.declared.answers.Checked.the-variants.{Good, Refused}
 use Rattle.symbol_order.specs.Order.{knownStates, allFree, takenFirst, taken, hasId, repeats, passes, allPass, inOrder}
 use Rattle.symbol_columns.specs.declared.symbol.Symbol.{Symbol}
-use Rattle.symbol_columns.specs.Stored.{storedWords}
+use Rattle.symbol_columns.specs.StoredWords.{storedWords}
 use Rattle.write_answer.specs.declared.answer.Answer.{Answer}
 use Rattle.write_answer.specs.Flat.{notAccepted, flat}
-use Rattle.symbol_update.specs.Updates.{updated, wordsAfter}
+use Rattle.symbol_update.specs.Update.{updated, wordsAfter}
 use Rattle.symbol_update_lone.specs.Lone.{loneInOrder, loneCheck, loneUpdated, loneWordsAfter}
 use Rattle.symbol_update.specs.declared.update_record.Updated.{Updated}
 

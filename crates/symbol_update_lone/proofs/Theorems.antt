@@ -19,7 +19,7 @@ use Rattle.write_words.proofs.Writing.{length-written}
 use Rattle.symbol_order.specs.Order as order
 use Rattle.symbol_columns.specs.declared.symbol.Symbol.{Symbol}
 use Rattle.write_answer.specs.declared.answer.Answer.{Answer}
-use Rattle.symbol_update.specs.Updates.{typed, updated, wordsAfter}
+use Rattle.symbol_update.specs.Update.{typed, updated, wordsAfter}
 use Rattle.symbol_update.specs.declared.update_record.Updated.{Updated}
 use Rattle.symbol_update.proofs.Cases.{by-lines}
 use Rattle.symbol_update.proofs.Theorems.{stored-written, unchanged}

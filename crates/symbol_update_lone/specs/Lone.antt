@@ -10,7 +10,7 @@ use Rattle.symbol_columns.specs.Rows.{free}
 use Rattle.symbol_order.specs.Order.{inOrder}
 use Rattle.symbol_columns.specs.declared.symbol.Symbol.{Symbol}
 use Rattle.write_answer.specs.Flat.{notAccepted}
-use Rattle.symbol_update.specs.Updates.{updated, wordsAfter}
+use Rattle.symbol_update.specs.Update.{updated, wordsAfter}
 use Rattle.symbol_update.specs.declared.update_record.Updated.{Updated}
 
 unfoldable pub loneInOrder : Symbol → List ℕ → Bool

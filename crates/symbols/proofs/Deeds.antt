@@ -17,18 +17,18 @@ use Rattle.write_words.specs.Written.{written}
 use Rattle.write_words.proofs.Writing.{length-written}
 use Rattle.symbol_columns.specs.declared.symbol.Symbol.{Symbol}
 use Rattle.symbol_columns.specs.Rows.{free}
-use Rattle.symbol_columns.specs.Stored.{storedWords}
+use Rattle.symbol_columns.specs.StoredWords.{storedWords}
 use Rattle.symbol_order.specs.Order.{passes}
 use Rattle.write_answer.specs.declared.answer.Answer.{Answer}
 use Rattle.write_answer.specs.Flat.{accepted}
-use Rattle.symbol_update.specs.Updates.{typed}
+use Rattle.symbol_update.specs.Update.{typed}
 use Rattle.symbol_update.proofs.Cases.{by-lines}
 use Rattle.symbol_update.proofs.Theorems.{stored-written}
 use Rattle.symbol_operations.specs.Act as act
 use Rattle.symbol_operations.specs.Act.{Act}
-use Rattle.symbol_slot.specs.Ways.{offeredCheck}
-use Rattle.symbol_change.specs.Changes.{inserts}
-use Rattle.symbol_record.specs.Deeds.{poisoned, Deed, deed, overwrites}
+use Rattle.symbol_slot.specs.Slot.{offeredCheck}
+use Rattle.symbol_change.specs.Change.{inserts}
+use Rattle.symbol_record.specs.Record.{poisoned, Deed, deed, overwrites}
 use Rattle.symbol_slot.proofs.Decided.{notRefused}
 
 -- words that are not refused

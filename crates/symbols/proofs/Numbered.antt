@@ -18,7 +18,7 @@ use Rattle.symbol_operations.specs.Act as act
 use Rattle.symbol_operations.specs.Act.{Act}
 use Rattle.symbol_slot.specs.Way as way
 use Rattle.symbol_slot.specs.Way.{Way}
-use Rattle.symbol_slot.specs.Ways.{offeredCheck, placeOf, unless, wayOf}
+use Rattle.symbol_slot.specs.Slot.{offeredCheck, placeOf, unless, wayOf}
 
 abbrev checkNumbered : paper.Answer ℕ → Bool
 checkNumbered (given n) = true

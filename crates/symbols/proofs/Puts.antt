@@ -14,12 +14,12 @@ use Rattle.type_layers.specs.Answer as paper
 use Rattle.type_layers.specs.Answer.{given, nothing, refused}
 use Rattle.type_layers.specs.Layers.{layers}
 use Rattle.type_checks.specs.Check.{at, checkOf}
-use Rattle.relation_equals.specs.Equalities.{identical}
-use Rattle.relation_declared.specs.Relations.{concretization}
+use Rattle.relation_equals.specs.Equals.{identical}
+use Rattle.relation_declared.specs.Declared.{concretization}
 use Rattle.relation_equals.proofs.Theorems.{identical-reflexive}
 use Rattle.symbol_columns.specs.declared.symbol.Symbol.{Symbol}
 use Rattle.symbol_columns.specs.Rows.{vacant, free}
-use Rattle.symbol_columns.specs.Stored.{slotWords, storedWords}
+use Rattle.symbol_columns.specs.StoredWords.{slotWords, storedWords}
 use Rattle.symbol_search.specs.Search.{slotFor}
 use Rattle.symbol_order.specs.Order.{inOrder, taken}
 use Rattle.symbol_order.proofs.Ordered.{ordered, in-order}
@@ -30,10 +30,10 @@ use Rattle.symbol_update.proofs.Cases.{by-lines}
 use Rattle.symbol_update.proofs.Theorems.{poison-wins as update-poison, accepted-holds-offered}
 use Rattle.symbol_operations.specs.Act as act
 use Rattle.symbol_operations.specs.Operation.{putNothing, acts}
-use Rattle.symbol_slot.specs.Ways.{placeOf, unless, wayOf}
-use Rattle.symbol_record.specs.Deeds.{Deed, overwrites}
-use Rattle.symbol_change.specs.Changes.{Outcome, withSlot, outcomeBy, outcome}
-use Rattle.symbol_get.specs.Gets.{markFor, got, typeIn, typeOf}
+use Rattle.symbol_slot.specs.Slot.{placeOf, unless, wayOf}
+use Rattle.symbol_record.specs.Record.{Deed, overwrites}
+use Rattle.symbol_change.specs.Change.{Outcome, withSlot, outcomeBy, outcome}
+use Rattle.symbol_get.specs.Get.{markFor, got, typeIn, typeOf}
 use Rattle.symbol_get.specs.Got as got′
 use Rattle.symbol_get.specs.Got.{Got}
 use Rattle.symbol_slot.specs.Way as way

@@ -13,11 +13,11 @@ use lib.Seq.{take-append-le, drop-append-le, take-take, drop-drop, take-add, tak
 use borrow.Author.Tests.{eq-eqb}
 use Rattle.symbol_columns.specs.declared.symbol.Symbol.{Symbol}
 use Rattle.symbol_columns.specs.Rows.{vacant, free}
-use Rattle.symbol_columns.specs.Stored.{slotWords}
+use Rattle.symbol_columns.specs.StoredWords.{slotWords}
 use Rattle.symbol_search.specs.Search.{firstFree, slotFor}
 use Rattle.symbol_order.specs.Order.{knownStates, allFree, takenFirst, taken, hasId, repeats, passes, allPass}
 use Rattle.type_layers.proofs.Decide.{both, neither, eqb-sym}
-use Rattle.symbol_change.specs.Changes.{withSlot}
+use Rattle.symbol_change.specs.Change.{withSlot}
 
 -- "states are 0 to 2"
 pub states-set : (table : List Symbol) (k : ℕ) (s : Symbol) → knownStates table ≡ true → leb (s .state) 2 ≡ true → knownStates (set table k s) ≡ true

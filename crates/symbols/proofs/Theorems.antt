@@ -16,7 +16,7 @@ use Rattle.write_words.specs.Written.{written}
 use Rattle.write_words.proofs.Writing.{length-written}
 use Rattle.symbol_columns.specs.declared.symbol.Symbol.{Symbol}
 use Rattle.symbol_columns.specs.Rows.{vacant, free}
-use Rattle.symbol_columns.specs.Stored.{slotWords, storedWords}
+use Rattle.symbol_columns.specs.StoredWords.{slotWords, storedWords}
 use Rattle.symbol_search.specs.Search.{slotFor}
 use Rattle.symbol_order.specs.Order.{passes, inOrder, takenFirst, taken, hasId, repeats}
 use Rattle.symbol_search.proofs.Searching.{slot-has}
@@ -24,15 +24,15 @@ use Rattle.symbol_order.proofs.Ordered.{Ordered, in-order, pass-at}
 use Rattle.symbols.proofs.Setting.{states-set, state-at, first-set, first-new, ids-kept, ids-new, absent-id, pass-set, slot-taken, slot-other, slot-kept, slot-new, free-at, words-before, words-after, slot-written, turned-round}
 use Rattle.write_answer.specs.declared.answer.Answer.{Answer}
 use Rattle.write_answer.specs.Flat.{accepted, notAccepted}
-use Rattle.symbol_update.specs.Updates.{typed}
+use Rattle.symbol_update.specs.Update.{typed}
 use Rattle.symbol_update.proofs.Cases.{by-lines}
 use Rattle.symbol_operations.specs.Act as act
 use Rattle.symbol_operations.specs.Act.{Act}
 use Rattle.symbol_operations.specs.Operation.{Operation, putNothing, acts}
-use Rattle.symbol_slot.specs.Ways.{offeredCheck, wayOf}
-use Rattle.symbol_record.specs.Deeds.{Deed, deed, overwrites}
-use Rattle.symbol_change.specs.Changes.{inserts, Outcome, withSlot, atSlot, outcomeBy, outcome}
-use Rattle.symbol_get.specs.Gets.{markFor, got, typeIn, typeOf}
+use Rattle.symbol_slot.specs.Slot.{offeredCheck, wayOf}
+use Rattle.symbol_record.specs.Record.{Deed, deed, overwrites}
+use Rattle.symbol_change.specs.Change.{inserts, Outcome, withSlot, atSlot, outcomeBy, outcome}
+use Rattle.symbol_get.specs.Get.{markFor, got, typeIn, typeOf}
 use Rattle.symbol_get.specs.Got as got′
 use Rattle.symbol_get.specs.Got.{Got}
 use Rattle.symbol_slot.specs.Way as way

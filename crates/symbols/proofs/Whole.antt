@@ -15,12 +15,12 @@ use Rattle.symbol_order.proofs.Ordered.{too-long}
 use Rattle.write_answer.specs.Flat.{notAccepted}
 use Rattle.symbol_operations.specs.Act.{Act}
 use Rattle.symbol_operations.specs.Operation.{Operation, putNothing, acts}
-use Rattle.symbol_slot.specs.Ways.{offeredCheck, placeOf, unless, wayOf}
+use Rattle.symbol_slot.specs.Slot.{offeredCheck, placeOf, unless, wayOf}
 use Rattle.symbol_slot.specs.Way as way
 use Rattle.symbol_slot.specs.Way.{Way}
-use Rattle.symbol_change.specs.Changes.{nowhere, outcomeBy, outcome, changeBy, changeOf, storeOf}
+use Rattle.symbol_change.specs.Change.{nowhere, outcomeBy, outcome, changeBy, changeOf, storeOf}
 use Rattle.symbol_change.specs.declared.change.Change.{Change}
-use Rattle.symbol_get.specs.Gets.{got, typeIn, typeOf}
+use Rattle.symbol_get.specs.Get.{got, typeIn, typeOf}
 use Rattle.symbol_get.specs.Got as got′
 use Rattle.symbol_get.specs.Got.{Got}
 

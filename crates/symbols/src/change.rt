@@ -6,7 +6,7 @@ use symbol_operations::Operation;
 use write_answer::Answer;
 ghost use mathlib.Core.Path.{_≡_};
 ghost use Rattle.symbol_operations.specs.Operations.{ofOperation};
-ghost use Rattle.symbol_change.specs.Changes as rules;
+ghost use Rattle.symbol_change.specs.Change as rules;
 
 // Changes a lent table and its store. A type has no mark and poison no offered words: the one that is not asked for is
 // not looked at.

@@ -5,7 +5,7 @@ use symbol_get::type_among;
 use symbol_lent::gather;
 use write_answer::Answer;
 ghost use mathlib.Core.Path.{_≡_};
-ghost use Rattle.symbol_get.specs.Gets as rules;
+ghost use Rattle.symbol_get.specs.Get as rules;
 
 // What a lent table has under a name.
 pub fn get_symbol(

@@ -11,7 +11,7 @@ ghost use mathlib.Core.List.{[]};
 ghost use Rattle.symbol_operations.specs.Act as act;
 ghost use Rattle.symbol_operations.specs.Operation.{acts};
 ghost use Rattle.symbol_operations.specs.Operations as operations;
-ghost use Rattle.symbol_change.specs.Changes as rules;
+ghost use Rattle.symbol_change.specs.Change as rules;
 
 // Puts nothing, poison or a type under a name.
 pub fn put_symbol(

@@ -2,6 +2,8 @@ use crate::words::Words;
 use crate::words::one;
 use crate::words::three;
 use crate::words::two;
+use symbol_columns::Column;
+use symbol_columns::Columns;
 use type_numbers::Kind;
 ghost use mathlib.Core.Path.{_≡_};
 ghost use lib.ListN.{length};
@@ -28,16 +30,16 @@ fn member_at(slot: usize) -> Words {
 }
 
 // The table in columns: id, authority, place, state, layers, mark.
-pub(crate) fn columns() -> [u64; 768]
+pub(crate) fn columns() -> Columns
     ensures { λ r. ⌜ 768 ≡ length r ⌝ }
 {
-    let mut ws = [0u64; 768];
+    let mut ws = [0u64; Column::WORDS];
     let mut i = 0;
     while i < MEMBERS {
         let m = member_at(i);
         ws[i] = i as u64 + 1;
-        ws[i + 384] = state(i);
-        ws[i + 512] = m.count as u64 / 3;
+        ws[i + Column::STATE] = state(i);
+        ws[i + Column::LAYERS] = m.count as u64 / 3;
         i += 1;
     }
     ws

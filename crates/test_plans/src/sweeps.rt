@@ -13,7 +13,7 @@ use type_numbers::StepKind;
 ghost use mathlib.Core.Path.{_≡_};
 ghost use lib.ListN.{length};
 
-// The most rounds, and two more, of a walk that is led back to pointers.
+// The most rounds, and two more, of a plan that is led back to pointers.
 pub(crate) fn rounds() {
     text(b"rounds\n");
     let mut n = 0;
@@ -58,7 +58,7 @@ fn asked(i: usize, id: u64, words: usize, rounds: u64) {
     ask(n, &ws, first(&q, words), &ws);
 }
 
-// The most asked steps, one less and one more; and a walk that the most rounds cut off.
+// The most asked steps, one less and one more; and a plan that the most rounds cut off.
 pub(crate) fn counts() {
     text(b"asked\n");
     asked(2, 7, 124, 64);

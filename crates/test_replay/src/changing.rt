@@ -16,6 +16,7 @@ use crate::runs::same;
 use crate::runs::word;
 use symbol_change::Change;
 use symbol_change::choose;
+use symbol_columns::Columns;
 use symbol_columns::Symbol;
 use symbol_get::get_among;
 use symbol_operations::Operation;
@@ -46,7 +47,7 @@ fn store_after(table: &[u64], stored: &[u64]) -> [u64; 640] {
 }
 
 // The columns as the answer leaves them.
-fn columns_after(table: &[u64], stored: &[u64]) -> [u64; 768] {
+fn columns_after(table: &[u64], stored: &[u64]) -> Columns {
     let mut flat = columns(table);
     if stored.len() > 0 {
         put(&mut flat, word(stored, 0) as usize, from(stored, 1));
@@ -130,7 +131,7 @@ fn changed(f: u64, table: &[u64], store: &mut [u64], name: Name, offered: &[u64]
 }
 
 // The columns with a change, where it has a slot.
-fn columns_with(table: &[u64], c: Change) -> [u64; 768] {
+fn columns_with(table: &[u64], c: Change) -> Columns {
     let mut flat = columns(table);
     let s = fields(c.symbol);
     if c.slot < records(table) {

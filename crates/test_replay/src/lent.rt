@@ -2,6 +2,8 @@ use crate::runs::after;
 use crate::runs::from;
 use crate::runs::run;
 use crate::runs::word;
+use symbol_columns::Column;
+use symbol_columns::Columns;
 use symbol_columns::Symbol;
 use write_words::write_words;
 ghost use Prim.Native.Nat.{_≤_};
@@ -43,20 +45,20 @@ pub(crate) fn records(table: &[u64]) -> usize
 }
 
 // Puts a record's six fields into their columns.
-pub(crate) fn put(flat: &mut [u64; 768], slot: usize, fields: &[u64]) {
+pub(crate) fn put(flat: &mut Columns, slot: usize, fields: &[u64]) {
     if slot < 128 {
         flat[slot] = word(fields, 0);
-        flat[slot + 128] = word(fields, 1);
-        flat[slot + 256] = word(fields, 2);
-        flat[slot + 384] = word(fields, 3);
-        flat[slot + 512] = word(fields, 4);
-        flat[slot + 640] = word(fields, 5);
+        flat[slot + Column::AUTHORITY] = word(fields, 1);
+        flat[slot + Column::PLACE] = word(fields, 2);
+        flat[slot + Column::STATE] = word(fields, 3);
+        flat[slot + Column::LAYERS] = word(fields, 4);
+        flat[slot + Column::MARK] = word(fields, 5);
     }
 }
 
 // The table in columns. Each record is its six fields and the run of its words.
-pub(crate) fn columns(table: &[u64]) -> [u64; 768] {
-    let mut flat = [0u64; 768];
+pub(crate) fn columns(table: &[u64]) -> Columns {
+    let mut flat = [0u64; Column::WORDS];
     let n = records(table);
     let mut rest = from(table, 1);
     let mut k = 0;

@@ -10,7 +10,7 @@ use Rattle.type_layers.specs.Answer.{next, truth, isGiven}
 use Rattle.type_checks.specs.Check.{checkOf}
 use Rattle.type_layers.proofs.Decide.{both}
 use Rattle.type_checks.proofs.Refusals.{passed}
-use Rattle.relation_questions.specs.Answers.{relates, relationAnswer, passes, coercionAnswer}
+use Rattle.relation_questions.specs.Questions.{relates, relationAnswer, passes, coercionAnswer}
 use Rattle.relation_questions.specs.declared.ask_relation.Relation.{Relation}
 use Rattle.relation_questions.specs.declared.ask_coercion.Coercion.{Coercion}
 use Rattle.type_bounds.specs.declared.bound.Halves.{Halves}

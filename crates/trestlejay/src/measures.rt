@@ -3,7 +3,7 @@ ghost use mathlib.Core.Path.{_≡_};
 ghost use Rattle.type_size_and_depth.specs.Known.{knownSizeAnswer};
 ghost use Rattle.type_size_and_depth.specs.Depth.{pointerDepthAnswer};
 ghost use Rattle.type_bounds.specs.Bounds.{lowestAnswer, highestAnswer};
-ghost use Rattle.type_stored_size.specs.Stored.{storedSizeAnswer};
+ghost use Rattle.type_stored_size.specs.StoredSize.{storedSizeAnswer};
 ghost use Rattle.write_answer.specs.Flat.{flat};
 ghost use Rattle.face_measures.specs.Measured as rules;
 

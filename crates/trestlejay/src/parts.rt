@@ -2,7 +2,7 @@ use face_measures::start;
 use type_part_starts::Part;
 use write_answer::Answer;
 ghost use mathlib.Core.Path.{_≡_};
-ghost use Rattle.type_part_starts.specs.Starts.{startAnswer};
+ghost use Rattle.type_part_starts.specs.PartStarts.{startAnswer};
 ghost use Rattle.write_answer.specs.Flat.{flat};
 
 #[no_mangle]

@@ -4,7 +4,7 @@ use write_answer::checked;
 use write_answer::verdict;
 ghost use mathlib.Core.Path.{_≡_};
 ghost use Rattle.type_checks.specs.Check.{checkOf};
-ghost use Rattle.type_wellformed.specs.Formed.{wellFormedAnswer};
+ghost use Rattle.type_wellformed.specs.WellFormed.{wellFormedAnswer};
 ghost use Rattle.type_properties.specs.Properties.{propertyAnswer};
 ghost use Rattle.write_answer.specs.Flat.{flat};
 

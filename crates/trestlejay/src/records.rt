@@ -11,8 +11,8 @@ ghost use mathlib.Core.List.{[]};
 ghost use Rattle.symbol_update_lone.specs.Lone as rules;
 ghost use Rattle.symbol_operations.specs.Act as act;
 ghost use Rattle.symbol_operations.specs.Operation.{putNothing, acts};
-ghost use Rattle.symbol_change.specs.Changes as changes;
-ghost use Rattle.symbol_get.specs.Gets as gets;
+ghost use Rattle.symbol_change.specs.Change as changes;
+ghost use Rattle.symbol_get.specs.Get as gets;
 
 #[no_mangle]
 pub extern "C" fn tj_update_symbol(

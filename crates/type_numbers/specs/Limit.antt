@@ -35,3 +35,11 @@ walked = 128
 -- "a count 1 to 32"
 abbrev pub sheetTypes : ℕ
 sheetTypes = 32
+
+-- The words of the longest sheet: a count, 32 layer counts, 32 bodies of 48 words.
+abbrev pub sheetWords : ℕ
+sheetWords = 1569
+
+-- The bytes of the longest text that `pairs` prints: a header of 62, and 1024 lines of 18.
+abbrev pub pairsBytes : ℕ
+pairsBytes = 18494

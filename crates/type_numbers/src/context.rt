@@ -1,4 +1,4 @@
-// A context of extern fixing.
+// A context of extern fixing, in the order of the rules and not of the Rust's enum.
 pub struct Context(pub u64);
 
 impl Context {

@@ -15,7 +15,8 @@ impl Limit {
 
     pub const SLOT_WORDS: usize = 48;
 
-    // The most asked steps and the most rounds of a plan, and the room for its steps: two for each round, and 16 more.
+    // The most asked steps and the most rounds of a plan, and the words of the longest one: two steps for each round and 16
+    // more, of four words each.
     pub const ASKED: u64 = 32;
 
     pub const ROUNDS: u64 = 64;

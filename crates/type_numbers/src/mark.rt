@@ -1,5 +1,5 @@
-// A step's mark: of an Element whether the array is endless, of an Autodeslice by what it goes, of a Member whether it has an
-// offset.
+// A step's mark. Of an Element: whether the array is endless. Of an Autodeslice: by view, by pointer, or the length. Of a
+// Member: whether it has an offset.
 pub struct Mark(pub u64);
 
 impl Mark {

@@ -17,7 +17,7 @@ use Rattle.type_checks.specs.Check.{nowhere, misplaced, checkOf}
 use Rattle.type_checks.proofs.Passing.{counted-by}
 use Rattle.type_checks.proofs.Accepted.{placed-inside, accepted-placed, accepted-count, accepted-inside}
 use Rattle.type_parts.specs.Parts.{innerIf, elementOf, pointeeOf, vieweeOf, references, fullyDereferenced, hasElement, hasPointee, hasViewee}
-use Rattle.type_part_starts.specs.Starts.{innerStart, startIn}
+use Rattle.type_part_starts.specs.PartStarts.{innerStart, startIn}
 use Rattle.type_part_starts.specs.declared.part_starts.Part.{Part}
 use Rattle.type_part_starts.specs.declared.part_starts.Part.the-variants as part
 

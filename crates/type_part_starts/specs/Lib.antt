@@ -1,1 +1,1 @@
-pub mod Starts
+pub mod PartStarts

@@ -1,4 +1,4 @@
-// The word at which such a part starts, for any words.
+// The word at which an element, a pointee, a viewee or a type fully dereferenced starts, for any words.
 mod part_starts;
 
 pub use part_starts::Part;

@@ -9,7 +9,7 @@ use Rattle.type_layers.specs.Answer.{Answer, isGiven}
 use Rattle.type_size_and_depth.specs.Answer.{ofSize}
 use Rattle.type_size_and_depth.specs.Known.{knownSize}
 use Rattle.type_size_and_depth.specs.declared.answers.Size.{Size}
-use Rattle.type_wellformed.specs.Formed.{wellFormed}
+use Rattle.type_wellformed.specs.WellFormed.{wellFormed}
 use Rattle.type_roles.specs.Roles.{refuses, needs, canBe}
 use Rattle.type_roles.specs.declared.roles.Role.{Role}
 

@@ -8,7 +8,7 @@ use Rattle.type_layers.specs.Layers.{Layer, layers, outer}
 use Rattle.type_layers.specs.Answer.{Answer, refused, next, truth, isGiven}
 use Rattle.type_checks.specs.Check.{checkOf}
 use Rattle.type_size_and_depth.specs.Known.{knownSize}
-use Rattle.type_wellformed.specs.Formed.{wellFormed}
+use Rattle.type_wellformed.specs.WellFormed.{wellFormed}
 use Rattle.type_roles.specs.declared.roles.Role.{Role}
 use Rattle.type_roles.specs.declared.roles.Role.the-variants as role
 

@@ -9,7 +9,7 @@ use Rattle.type_layers.specs.Layers.{layers}
 use Rattle.type_layers.specs.Answer.{given, nothing, refused}
 use Rattle.type_checks.specs.Check.{checkOf, goodLayer, badLayer, misplaced}
 use Rattle.type_size_and_depth.specs.Known.{knownOf}
-use Rattle.type_stored_size.specs.Stored.{storedSize, storedSizeAnswer}
+use Rattle.type_stored_size.specs.StoredSize.{storedSize, storedSizeAnswer}
 
 -- Array 0 of Array 2^63 of Int16: the element is too large, whatever the length
 pub none-of-large : storedSizeAnswer (words kind.array 0 0 ++ (words kind.array 0 (2 ^ 63) ++ words kind.int16 0 0)) ≡ refused 17 0

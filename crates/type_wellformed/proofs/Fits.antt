@@ -11,7 +11,7 @@ use Rattle.type_numbers.specs.Kind as kind
 use Rattle.type_layers.specs.Layers.{layers, outer, inside, isArray, isSlice, isReference, holdsInner}
 use Rattle.type_layers.proofs.Words.{none, more, rest, outer-more}
 use Rattle.type_layers.proofs.Decide.{neither}
-use Rattle.type_wellformed.specs.Formed.{inner, element, wellFormed}
+use Rattle.type_wellformed.specs.WellFormed.{inner, element, wellFormed}
 
 -- what holds of each kind that a test lists holds of the kind that passed the test
 module _ (P : ℕ → Type 0) (k : ℕ) where

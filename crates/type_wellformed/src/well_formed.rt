@@ -11,7 +11,7 @@ ghost use lib.Dec.{eqb};
 ghost use Rattle.type_numbers.specs.Kind as kind;
 ghost use Rattle.type_layers.specs.Layers.{layers};
 ghost use Rattle.type_layers.specs.Answer.{ofVerdict};
-ghost use Rattle.type_wellformed.specs.Formed as formed;
+ghost use Rattle.type_wellformed.specs.WellFormed as formed;
 
 // Whether an array may hold a type with this outer kind.
 fn can_be_element(k: u64) -> bool

@@ -5,7 +5,7 @@ use Prim.Native.Nat.{ℕ}
 use lib.Dec.{eqb}
 use Rattle.type_numbers.specs.Kind as kind
 use Rattle.type_layers.specs.Layers.{Layer, layer, outer, inside, isArray, isReference}
-use Rattle.symbol_members.specs.Stored.{Stored, typed, absent}
+use Rattle.symbol_members.specs.Member.{Stored, typed, absent}
 use Rattle.type_numbers.specs.StepKind as of-step
 use Rattle.type_numbers.specs.Mark as of-mark
 use Rattle.plan_steps.specs.Steps.{Step}

@@ -17,7 +17,7 @@ use borrow.Fn.Kinds.{Dens, resT, endedOf}
 use Rattle.symbol_columns.proofs.Single.{Walked}
 use Rattle.walker_run.proofs.steps_taken.walk_among.Kinds.{ps, r}
 use Rattle.walker_run.proofs.steps_taken.walk_among.Reads.{Post}
-use Rattle.walker_run.proofs.lent_table.walk as walk
+use Rattle.walker_run.proofs.walk_lent.walk as walk
 
 pub walk-among-single : (κs : Lfts 4) (a : Dens κs ps) (x y : resT r κs .Denot) (s t : AtExit (endedOf 4 ps r) κs) → Post κs a x s → Post κs a y t →
     (x ≡ y) × (now (s .1 .1 .1 .1 .1 .1 .0) ≡ now (t .1 .1 .1 .1 .1 .1 .0))

@@ -27,11 +27,11 @@ use Rattle.write_answer.specs.declared.answer.Answer.{Answer}
 use Rattle.plan_steps.specs.Steps.{steps, stepsAnswer}
 use Rattle.plan_steps.proofs.Words.{steps-none}
 use Rattle.plan_steps.proofs.Passing.{here, at-word, steps-whole}
-use Rattle.symbol_members.specs.Stored.{Stored}
+use Rattle.symbol_members.specs.Member.{Stored}
 use Rattle.walker_rule.specs.Walker.{at}
 use Rattle.symbol_members.specs.Members.{memberIn, ofLayers, members}
 use Rattle.walker_rule.specs.Asked.{askedIn}
-use Rattle.walker_step.specs.Moves.{moveOf, seen, onward, desliced, sticks, moved, Current}
+use Rattle.walker_step.specs.StepMove.{moveOf, seen, onward, desliced, sticks, moved, Current}
 use Rattle.walker_step.specs.declared.step_move.Move.{Move}
 use Rattle.symbol_members.proofs.Storing.{at-most, member-whole}
 use Rattle.walker_step.proofs.Acting.{acts, moves-on}

@@ -14,7 +14,7 @@ use Rattle.type_checks.specs.Check.{checkOf}
 use Rattle.symbol_order.specs.Order.{inOrder}
 use Rattle.symbol_columns.specs.declared.symbol.Symbol.{Symbol}
 use Rattle.plan_steps.specs.Steps.{Step, step, steps, stepsAnswer}
-use Rattle.symbol_members.specs.Stored.{Stored}
+use Rattle.symbol_members.specs.Member.{Stored}
 use Rattle.walker_rule.specs.Walker.{Where, at, stuck, act, then, walker, arrives}
 use Rattle.symbol_members.specs.Members.{members}
 use Rattle.walker_rule.proofs.Where.{at-is, not-stuck}

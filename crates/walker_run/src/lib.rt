@@ -1,6 +1,6 @@
 // The walker as a function: steps in a row, then the address.
-mod lent_table;
 mod steps_taken;
+mod walk_lent;
 
-pub use lent_table::walk;
 pub use steps_taken::walk_among;
+pub use walk_lent::walk;

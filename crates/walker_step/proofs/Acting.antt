@@ -13,10 +13,10 @@ use Rattle.type_layers.proofs.Words.{inner-layers, inner-whole, none, more}
 use Rattle.type_layers.proofs.Decide.{yes, no}
 use Rattle.type_numbers.specs.Mark as of-mark
 use Rattle.plan_steps.specs.Steps.{Step}
-use Rattle.symbol_members.specs.Stored.{Stored}
+use Rattle.symbol_members.specs.Member.{Stored}
 use Rattle.walker_rule.specs.Walker.{Where, at, stuck, toStored, element, member, act}
 use Rattle.symbol_members.specs.Members.{ofLayers}
-use Rattle.walker_step.specs.Moves.{onElement, onMember, onAutodeslice, takesOff, moveOf, seen, onward, desliced, sticks, moved, Current}
+use Rattle.walker_step.specs.StepMove.{onElement, onMember, onAutodeslice, takesOff, moveOf, seen, onward, desliced, sticks, moved, Current}
 use Rattle.walker_step.specs.declared.step_move.Move.{Move}
 use Rattle.walker_step.specs.declared.step_move.Move.the-variants.{Stuck, Inside, TwoInside, Deslice, Member}
 

@@ -111,7 +111,7 @@ impl Question {
     }
 
     fn any(random: &mut Random, held: &Held, steps: usize) -> Self {
-        let (known, asked, end) = walk(random, held, steps);
+        let (known, asked, end) = journey(random, held, steps);
         let depth = random.pick(&[0, 0, 0, 1, 1, 2]);
         Question {
             known: Type::new(&known),
@@ -166,7 +166,7 @@ impl Question {
 }
 
 /// A known type, as many fitting steps as can be, and the type where they end.
-fn walk(random: &mut Random, held: &Held, steps: usize) -> (Vec<Layer>, Vec<Step>, Vec<Layer>) {
+fn journey(random: &mut Random, held: &Held, steps: usize) -> (Vec<Layer>, Vec<Step>, Vec<Layer>) {
     let known = few_layers(random);
     let (mut asked, mut end) = (Vec::new(), known.clone());
     while asked.len() < steps {

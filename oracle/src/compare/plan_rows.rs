@@ -165,7 +165,7 @@ fn counts<'a, N: Display>(all: impl IntoIterator<Item = (N, &'a u64)>) -> String
     told.collect::<Vec<_>>().join(", ")
 }
 
-/// Whether nothing was refused before the walk, rounds aside.
+/// Whether nothing was refused before the rounds, their number aside.
 fn is_good_question(asked: &Asked, judged: &Result<Planned, Refusal>) -> bool {
     match judged {
         Err((5, _)) => judge_plan(&Asked {

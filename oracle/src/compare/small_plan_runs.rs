@@ -105,7 +105,7 @@ fn small_types() -> Vec<Vec<u64>> {
 
 const DEPTHS: [u8; 5] = [0, 1, 2, 3, 255];
 
-/// So few that they cut a walk off, the most, one less, and one too many.
+/// So few that they cut a plan off, the most, one less, and one too many.
 const ROUNDS: [u64; 7] = [0, 1, 2, 3, 63, 64, 65];
 
 /// Without asked steps every pair of small types.
@@ -137,7 +137,7 @@ fn asked(plans: &mut Plans, types: &[Vec<u64>], members: &Members) {
     }
 }
 
-/// For every target, where the walk is not refused: what refuses it looks at neither target nor depth.
+/// For every target, where no round is refused: what refuses it looks at neither target nor depth.
 fn along(plans: &mut Plans, known: &[u64], steps: &[u64], types: &[Vec<u64>], members: &Members) {
     let mut ask = |target: &[u64], depth: u8, rounds: u64| {
         plans.ask(&Asked {

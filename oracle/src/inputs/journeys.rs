@@ -1,5 +1,5 @@
 //! Random questions about plans: a table whose members lead back to a Struct or a Word, a known type,
-//! and asked steps that mostly fit where the walk is.
+//! and asked steps that mostly fit where the rounds are.
 
 use super::random::Random;
 use super::relatives::{coerced, relative};
@@ -168,7 +168,7 @@ pub fn journey(random: &mut Random) -> Journey {
     made
 }
 
-/// A type that the settling looks at when the walk ends on this one.
+/// A type that the settling looks at when the rounds end on this one.
 pub fn target(random: &mut Random, current: &[Layer]) -> Vec<Layer> {
     let t = match random.below(7) {
         0 => current.to_vec(),

@@ -23,7 +23,7 @@ pub struct Members {
     pub table: Vec<Symbol>,
     pub store: Vec<u64>,
     is_in_order: bool,
-    /// With the ill-formed types poisoned, since the original would walk on from them.
+    /// With the ill-formed types poisoned, since the original would go on from them.
     records: Vec<Record>,
     ill_formed: Vec<u32>,
 }
@@ -203,7 +203,7 @@ fn in_words(made: &Plan) -> Planned {
     }
 }
 
-/// The number of a walk that met a member without a type to go on from: the first asked steps that
+/// The number of rounds that met a member without a type to go on from: the first asked steps that
 /// fail so end with that member.
 fn without_type(steps: &[Step], members: &Members, fails: impl Fn(&[Step]) -> bool) -> u64 {
     let met = (0..steps.len()).find(|last| fails(&steps[..=*last]));

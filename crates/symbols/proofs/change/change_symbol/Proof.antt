@@ -61,7 +61,7 @@ use Rattle.symbol_lent.proofs.gather.Met as gather-thm
 use Rattle.write_answer.specs.declared.answer.Answer.{Answer}
 use Rattle.write_answer.proofs.answer.Answer as B
 use Rattle.write_answer.proofs.answer.Answer.Laws as B′
-use Rattle.symbol_change.specs.Changes.{outcome, changeOf, storeOf}
+use Rattle.symbol_change.specs.Change.{outcome, changeOf, storeOf}
 use Rattle.symbol_operations.specs.declared.operation.Operation.{Operation}
 use Rattle.symbol_operations.specs.Operations.{ofOperation}
 use Rattle.symbol_change.specs.declared.change.Change.{Change}

@@ -51,7 +51,7 @@ use Rattle.write_answer.specs.declared.answer.Answer.{Answer}
 use Rattle.write_answer.proofs.answer.Answer as B
 use Rattle.write_answer.proofs.answer.Answer.Laws as B′
 use Rattle.symbol_get.specs.Got.{Got}
-use Rattle.symbol_get.specs.Gets.{got, told, foundAfter}
+use Rattle.symbol_get.specs.Get.{got, told, foundAfter}
 use Rattle.symbols.proofs.Whole.{got-same}
 use Rattle.symbol_get.proofs.get_among as core
 use Rattle.symbol_get.proofs.get_among.Symbol as core-def

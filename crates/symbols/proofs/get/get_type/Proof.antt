@@ -45,7 +45,7 @@ use Rattle.symbol_lent.proofs.Lending.{Flat, lent, Gather, zeros-typed, gatheri
 use Rattle.symbol_lent.proofs.gather.Symbol as gather-def
 use Rattle.symbol_lent.proofs.gather.Symbol.{name as #gather}
 use Rattle.symbol_lent.proofs.gather.Met as gather-thm
-use Rattle.symbol_get.specs.Gets.{typeOf}
+use Rattle.symbol_get.specs.Get.{typeOf}
 use Rattle.symbols.proofs.Whole.{type-same}
 use Rattle.symbol_get.proofs.type_among as core
 use Rattle.symbol_get.proofs.type_among.Symbol as core-def

@@ -1,5 +1,5 @@
 use borrow.Author.Needs.{needs}
-use Rattle.type_part_starts.specs.Starts.{startAnswer}
+use Rattle.type_part_starts.specs.PartStarts.{startAnswer}
 use Rattle.type_checks.proofs.Refusals.{refuses, accepts}
 use Rattle.type_part_starts.proofs.Places.{passes}
 use Rattle.type_part_starts.proofs.part_starts.start_of.Statement.{statement}

@@ -1,6 +1,6 @@
 use borrow.Author.Needs.{needs}
 use Rattle.type_checks.proofs.Refusals.{refuses, accepts}
-use Rattle.type_stored_size.specs.Stored.{storedSizeAnswer}
+use Rattle.type_stored_size.specs.StoredSize.{storedSizeAnswer}
 use Rattle.type_stored_size.proofs.stored_sizes.stored_size.Statement.{statement}
 use Rattle.type_stored_size.proofs.stored_sizes.stored_size.Tie as tie
 

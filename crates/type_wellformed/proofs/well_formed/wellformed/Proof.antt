@@ -1,6 +1,6 @@
 use borrow.Author.Needs.{needs}
 use Rattle.type_checks.proofs.Refusals.{refuses, accepts, answered}
-use Rattle.type_wellformed.specs.Formed.{wellFormedAnswer}
+use Rattle.type_wellformed.specs.WellFormed.{wellFormedAnswer}
 use Rattle.type_wellformed.proofs.well_formed.wellformed.Statement.{statement}
 use Rattle.type_wellformed.proofs.well_formed.wellformed.Tie as tie
 

@@ -58,10 +58,10 @@ use Rattle.planner.proofs.plan_checks.plan_among as core
 use Rattle.planner.proofs.plan_checks.plan_among.Symbol as core-def
 use Rattle.planner.proofs.plan_checks.plan_among.Symbol.{name as #plan-among}
 use Rattle.planner.proofs.plan_checks.plan_among.Met as core-thm
-use Rattle.planner.proofs.lent_table.autoderef.Key.{name as #autoderef}
-use Rattle.planner.proofs.lent_table.autoderef as f
-use Rattle.planner.proofs.lent_table.autoderef.Statement as stated
-use Rattle.planner.proofs.lent_table.autoderef.Code as code
+use Rattle.planner.proofs.autoderef_lent.autoderef.Key.{name as #autoderef}
+use Rattle.planner.proofs.autoderef_lent.autoderef as f
+use Rattle.planner.proofs.autoderef_lent.autoderef.Statement as stated
+use Rattle.planner.proofs.autoderef_lent.autoderef.Code as code
 
 abbrev stayed : Stays (f.ended .signature .params) (f.ended .kept)
 stayed = (stay-none-slice (0 ∷ []) tt (plain (λ _. u64)) yes, (stay-none-slice (1 ∷ []) tt (plain (λ _. u64)) yes, (stay-none-slice (0 ∷ []) tt (plain (λ _. u64)) yes, (stay-none (λ _. u8) yes, (stay-none (λ _. u64) yes, (stay-none-slice (2 ∷ []) tt (plain (λ _. R.the-row)) yes, (stay-none-slice (0 ∷ []) tt (plain (λ _. u64)) yes, (gave-slice (3 ∷ []) tt (plain (λ _. u64)), (gave-slice (4 ∷ []) tt (plain (λ _. u64)), tt)))))))))

@@ -9,7 +9,7 @@ use Rattle.symbol_columns.specs.declared.symbol.Symbol.{Symbol}
 use Rattle.write_answer.specs.declared.answer.Answer.{Answer}
 use Rattle.write_answer.specs.Flat.{accepted}
 use Rattle.symbol_update.specs.declared.update_record.Updated.{Updated}
-use Rattle.symbol_update.specs.Updates.{typed, updated, wordsAfter}
+use Rattle.symbol_update.specs.Update.{typed, updated, wordsAfter}
 use Rattle.symbol_operations.specs.Act as act
 use Rattle.symbol_operations.specs.Act.{Act}
 use Rattle.symbol_operations.specs.Operations.{offersType}
@@ -29,7 +29,7 @@ abbrev pub deed : Symbol → List ℕ → Answer → Deed
 deed s ws a = record { symbol = s; words = ws; answer = a }
 
 -- To a record that has the id. A put of a type is an update. "Put of poison: poisons, identifier kept". "Forward
--- declaration overwrites". Value 4: a record that was there was poisoned or overwritten.
+-- declaration overwrites".
 abbrev pub overwrites : Act → Symbol → List ℕ → ℕ → Bool → ℕ → ℕ → List ℕ → Deed
 overwrites act.putPoison s ws id authority place mark offered =
     deed (poisoned (s .id) (s .authority) (s .place) mark) ws (accepted effect.overwritten)

@@ -60,10 +60,10 @@ use Rattle.walker_run.proofs.steps_taken.walk_among as core
 use Rattle.walker_run.proofs.steps_taken.walk_among.Symbol as core-def
 use Rattle.walker_run.proofs.steps_taken.walk_among.Symbol.{name as #walk-among}
 use Rattle.walker_run.proofs.steps_taken.walk_among.Met as core-thm
-use Rattle.walker_run.proofs.lent_table.walk.Key.{name as #walk}
-use Rattle.walker_run.proofs.lent_table.walk as f
-use Rattle.walker_run.proofs.lent_table.walk.Statement as stated
-use Rattle.walker_run.proofs.lent_table.walk.Code as code
+use Rattle.walker_run.proofs.walk_lent.walk.Key.{name as #walk}
+use Rattle.walker_run.proofs.walk_lent.walk as f
+use Rattle.walker_run.proofs.walk_lent.walk.Statement as stated
+use Rattle.walker_run.proofs.walk_lent.walk.Code as code
 
 abbrev stayed : Stays (f.ended .signature .params) (f.ended .kept)
 stayed = (stay-none-slice (0 ∷ []) tt (plain (λ _. u64)) yes, (stay-none-slice (1 ∷ []) tt (plain (λ _. u64)) yes, (stay-none (λ _. bool) yes, (stay-none-slice (2 ∷ []) tt (plain (λ _. R.the-row)) yes, (stay-none-slice (0 ∷ []) tt (plain (λ _. u64)) yes, (gave-slice (3 ∷ []) tt (plain (λ _. u64)), tt))))))

@@ -10,16 +10,15 @@ use Rattle.type_numbers.specs.State as of-state
 use Rattle.type_layers.specs.Layers.{layers}
 use Rattle.write_words.specs.Written.{written}
 use Rattle.symbol_columns.specs.declared.symbol.Symbol.{Symbol}
-use Rattle.symbol_columns.specs.Stored.{storedWords}
+use Rattle.symbol_columns.specs.StoredWords.{storedWords}
 use Rattle.write_answer.specs.declared.answer.Answer.{Answer}
 use Rattle.write_answer.specs.Flat.{accepted, notAccepted}
-use Rattle.symbol_update_rule.specs.Rulings.{lineOf}
+use Rattle.symbol_update_rule.specs.Rule.{lineOf}
 use Rattle.symbol_update_rule.specs.Line as line
 use Rattle.symbol_update_rule.specs.Line.{Line}
 use Rattle.symbol_update.specs.declared.update_record.Updated.{Updated}
 
--- Accepted: 0 where nothing changes, 1 where the type is replaced, 2 where both are. "Every refusal returns its number and
--- a place (0 unless named)".
+-- What each line answers. "Every refusal returns its number and a place (0 unless named)".
 abbrev pub answerBy : Line → Answer
 answerBy line.poisoned = accepted effect.kept
 answerBy line.illFormed = notAccepted refusal.illFormed 0

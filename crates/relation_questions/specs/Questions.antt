@@ -5,9 +5,9 @@ use Prim.Native.Nat.{ℕ}
 use Rattle.type_layers.specs.Layers.{Layer, layers}
 use Rattle.type_layers.specs.Answer.{Answer, next, truth}
 use Rattle.type_checks.specs.Check.{checkOf}
-use Rattle.relation_equals.specs.Equalities.{identical, equals}
-use Rattle.relation_declared.specs.Relations.{like, declared, concretization}
-use Rattle.relation_coerces.specs.Coercions.{coerces, addressCoerces, autoderefs, subautoderefs}
+use Rattle.relation_equals.specs.Equals.{identical, equals}
+use Rattle.relation_declared.specs.Declared.{like, declared, concretization}
+use Rattle.relation_coerces.specs.Coerces.{coerces, addressCoerces, autoderefs, subautoderefs}
 use Rattle.relation_questions.specs.declared.ask_relation.Relation.{Relation}
 use Rattle.relation_questions.specs.declared.ask_relation.Relation.the-variants as relation
 use Rattle.relation_questions.specs.declared.ask_coercion.Coercion.{Coercion}

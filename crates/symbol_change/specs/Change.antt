@@ -9,7 +9,7 @@ use Rattle.type_numbers.specs.Effect as effect
 use Rattle.type_numbers.specs.Refusal as refusal
 use Rattle.symbol_columns.specs.declared.symbol.Symbol.{Symbol}
 use Rattle.symbol_columns.specs.Rows.{vacant}
-use Rattle.symbol_columns.specs.Stored.{slotWords}
+use Rattle.symbol_columns.specs.StoredWords.{slotWords}
 use Rattle.symbol_order.specs.Order.{inOrder}
 use Rattle.write_answer.specs.declared.answer.Answer.{Answer}
 use Rattle.write_answer.specs.Flat.{accepted, notAccepted}
@@ -18,12 +18,12 @@ use Rattle.symbol_operations.specs.Act.{Act}
 use Rattle.symbol_operations.specs.Operation.{Operation, putNothing, acts}
 use Rattle.symbol_slot.specs.Way as way
 use Rattle.symbol_slot.specs.Way.{Way}
-use Rattle.symbol_slot.specs.Ways.{wayOf}
-use Rattle.symbol_record.specs.Deeds.{Deed, deed, overwrites, filled, filledWords, seen}
+use Rattle.symbol_slot.specs.Slot.{wayOf}
+use Rattle.symbol_record.specs.Record.{Deed, deed, overwrites, filled, filledWords, seen}
 use Rattle.symbol_change.specs.declared.change.Change.{Change}
 
 -- What is done to the first free record. "Put of poison: .. or inserts. Put of a type under a new id inserts it, well
--- formed or not. Forward declaration overwrites or inserts." Value 3: a record was inserted.
+-- formed or not. Forward declaration overwrites or inserts."
 abbrev pub inserts : Act → List ℕ → ℕ → Bool → ℕ → ℕ → List ℕ → Deed
 inserts a ws id authority place mark offered =
     deed (filled a id authority place mark offered) (filledWords a offered ws) (accepted effect.inserted)

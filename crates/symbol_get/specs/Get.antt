@@ -8,7 +8,7 @@ use Rattle.type_numbers.specs.Refusal as refusal
 use Rattle.type_numbers.specs.State as of-state
 use Rattle.symbol_columns.specs.declared.symbol.Symbol.{Symbol}
 use Rattle.symbol_columns.specs.Rows.{vacant, typed}
-use Rattle.symbol_columns.specs.Stored.{slotWords, storedWords}
+use Rattle.symbol_columns.specs.StoredWords.{slotWords, storedWords}
 use Rattle.symbol_search.specs.Search.{slotFor}
 use Rattle.symbol_order.specs.Order.{inOrder}
 use Rattle.write_answer.specs.declared.answer.Answer.{Answer}
@@ -31,9 +31,9 @@ got id authority table store =
     (got′.poisoned (markFor authority (getD table (slotFor id table) vacant .mark)))))
     (got′.refused refusal.tableNotInOrder 0)
 
--- 0 absent; 1 typed; 2 poisoned.
+-- 0 where it is absent; else the state of its record.
 abbrev pub told : Got → Answer
-told got′.absent = accepted of-state.free
+told got′.absent = accepted 0
 told (got′.typed k) = accepted of-state.typed
 told (got′.poisoned m) = accepted of-state.poisoned
 told (got′.refused n p) = notAccepted n p

@@ -6,7 +6,7 @@ use Prim.Native.Nat.{ℕ}
 use lib.Dec.{eqb}
 use Rattle.type_numbers.specs.Kind as kind
 use Rattle.type_layers.specs.Layers.{Layer, outer, inside, isReference}
-use Rattle.relation_equals.specs.Equalities.{identical, equals}
+use Rattle.relation_equals.specs.Equals.{identical, equals}
 
 -- "kind 14 or 15"
 abbrev pub hasLength : ℕ → Bool

@@ -5,7 +5,7 @@ use Prim.Native.Nat.{ℕ}
 use lib.Dec.{eqb}
 use Rattle.type_numbers.specs.Kind as kind
 use Rattle.type_layers.specs.Layers.{Layer, outer, inside, isSlice, holdsInner}
-use Rattle.relation_equals.specs.Equalities.{identical}
+use Rattle.relation_equals.specs.Equals.{identical}
 
 -- "like (a, b): a is of kind 14, 15 or 18 and b is Arraylike: their elements are like. Otherwise identical."
 abbrev pub arrayMeetsArraylike : ℕ → ℕ → Bool
