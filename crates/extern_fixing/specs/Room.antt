@@ -8,5 +8,5 @@ use lib.ListN.{length}
 pub record Room (ws : List ℕ) (place : ℕ) (made : List ℕ) : Type 0 where
   pub whole : length ws % 3 ≡ 0
   pub room : length ws ≤ length made
-  -- so far that the place does not overflow
+  -- so that counting the place cannot overflow
   pub near : place + length ws ≤ 64

@@ -61,7 +61,7 @@ module _ (member : ℕ → List ℕ) (rounds : ℕ) (known asked buf cur rest : 
   pub few-steps : rounds ≤ 64 → n ≤ 128
   few-steps h = omega (arith, a .within, a .few)
 
-  pub end-room : (m : ℕ) → m ≤ 128 → 4 * m + 64 ≤ length buf
+  pub end-room : (m : ℕ) → m ≤ 128 → 4 * (m + 16) ≤ length buf
   end-room m h = omega (arith, a .room)
 
   pub taken-fits : (t : Turn) (k : ℕ) → rounds ≤ 64 → k ≡ takenBy t → Fits w64 (taken + k)
