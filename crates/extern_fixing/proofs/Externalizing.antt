@@ -9,8 +9,9 @@ use lib.Dec.{eqb}
 use lib.ListN.{length, getD, length-take, length-drop}
 use borrow.Author.Tests.{eqb-true, not-true, not-false}
 use Rattle.type_numbers.specs.Kind as kind
-use Rattle.type_numbers.specs.Words.{words}
-use Rattle.type_layers.specs.Layers.{Layer, layer, layers, isReference, spelled, head}
+use Rattle.type_numbers.specs.AsCoded.{words}
+use Rattle.type_layers.specs.Layers.{Layer, layer, layers, isReference, spelled}
+use Rattle.type_layers.specs.AsCoded.{head}
 use Rattle.type_layers.specs.Answer.{Answer, given, nothing, refused, ofChecked}
 use Rattle.type_layers.specs.declared.answers.Checked.{Checked}
 use Rattle.type_layers.specs.declared.answers.Checked.the-variants.{Good, Refused}
@@ -19,7 +20,7 @@ use Rattle.write_words.specs.Written.{written}
 use Rattle.write_words.proofs.Writing.{part, put, put-back, front-last}
 use Rattle.extern_fixing.specs.Fixing.{under, kept, externalized}
 use Rattle.write_type.specs.Outcome.{told, over}
-use Rattle.extern_fixing.specs.Room.{Room}
+use Rattle.extern_fixing.specs.AsCoded.{Room}
 use Rattle.type_layers.proofs.Spelling.{spelled-length, spelled-layers}
 use Rattle.write_type.proofs.Outcomes.{stays}
 

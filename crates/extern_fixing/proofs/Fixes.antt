@@ -9,7 +9,8 @@ use lib.ListN.{length, take, drop}
 use lib.Seq.{take-at, length-take-le}
 use borrow.Author.Tests.{eq-eqb, ne-eqb, lt-ltb, le-ltb, not-true, not-false}
 use Rattle.type_numbers.specs.Kind as kind
-use Rattle.type_layers.specs.Layers.{Layer, layer, layers, outer, spelled, Whole}
+use Rattle.type_layers.specs.Layers.{Layer, layer, layers, outer, spelled}
+use Rattle.type_layers.specs.AsCoded.{Whole}
 use Rattle.type_layers.specs.Answer.{Answer, given, nothing, refused, ofChecked}
 use Rattle.type_checks.specs.Check.{checkOf}
 use Rattle.type_layers.specs.declared.answers.Checked.{Checked}

@@ -1,3 +1,3 @@
 pub mod Fixing
-pub mod Room
 pub mod Answers
+pub mod AsCoded

@@ -15,11 +15,12 @@ ghost use mathlib.Core.List.{[], _∷_};
 ghost use Prim.Native.Nat.{_≤_};
 ghost use lib.Dec.{eqb};
 ghost use Rattle.type_numbers.specs.Kind as kind;
-ghost use Rattle.type_numbers.specs.Words.{words};
-ghost use Rattle.type_layers.specs.Layers.{layer, layers, isReference, spelled, Whole};
+ghost use Rattle.type_numbers.specs.AsCoded.{words};
+ghost use Rattle.type_layers.specs.Layers.{layer, layers, isReference, spelled};
+ghost use Rattle.type_layers.specs.AsCoded.{Whole};
 ghost use Rattle.type_layers.specs.Answer.{ofChecked};
 ghost use Rattle.extern_fixing.specs.Fixing as fixing;
-ghost use Rattle.extern_fixing.specs.Room.{Room};
+ghost use Rattle.extern_fixing.specs.AsCoded.{Room};
 ghost use Rattle.write_type.specs.Outcome.{told, over, answerIn, bufferIn};
 
 fn is_kept(k: u64) -> bool

@@ -8,7 +8,7 @@ use lib.Dec.{eqb}
 use lib.ListN.{drop}
 use borrow.Author.Tests.{eq-eqb, ne-eqb}
 use Rattle.type_numbers.specs.Kind as kind
-use Rattle.type_numbers.specs.Words.{words}
+use Rattle.type_numbers.specs.AsCoded.{words}
 use Rattle.type_layers.specs.Layers.{layers, outer, inside}
 use Rattle.type_layers.proofs.Words.{inner-layers}
 use Rattle.type_numbers.specs.Context.{parameter, returned}

@@ -4,10 +4,10 @@ use mathlib.Core.Path.{_≡_}
 use Prim.Native.Nat.{ℕ}
 use Rattle.type_part_starts.specs.PartStarts.{ofStart}
 use Rattle.type_part_starts.specs.declared.part_starts.Start.{Start}
-use Rattle.type_size_and_depth.specs.Answer.{ofSize, ofCount}
+use Rattle.type_size_and_depth.specs.AsCoded.{ofSize, ofCount}
 use Rattle.type_size_and_depth.specs.declared.answers.Size.{Size}
 use Rattle.type_size_and_depth.specs.declared.answers.Count.{Count}
-use Rattle.type_bounds.specs.Answer.{ofBound}
+use Rattle.type_bounds.specs.AsCoded.{ofBound}
 use Rattle.type_bounds.specs.declared.bound.Bound.{Bound}
 use Rattle.write_answer.specs.Flat.{flat}
 use Rattle.write_answer.specs.declared.answer.Answer.{Answer}

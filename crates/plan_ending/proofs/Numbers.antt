@@ -6,7 +6,7 @@ use Prim.Native.Nat.{ℕ}
 use Rattle.type_numbers.specs.StepKind as of-step
 use Rattle.plan_settling.specs.declared.settling.Settling.{Settling}
 use Rattle.plan_settling.specs.declared.settling.Settling.the-variants as settling
-use Rattle.plan_ending.specs.Ending.{unwound, given, refused, endingOf}
+use Rattle.plan_ending.specs.AsCoded.{unwound, given, refused, endingOf}
 use Rattle.plan_ending.specs.declared.ending.Ending.{Ending}
 
 module _ (s : Settling) (p n : ℕ) (r : Ending) where

@@ -2,7 +2,7 @@ use plan_settling::Settling;
 use type_numbers::StepKind;
 use type_parts::fully_dereferenced;
 ghost use mathlib.Core.Path.{_≡_};
-ghost use Rattle.plan_ending.specs.Ending as ending;
+ghost use Rattle.plan_ending.specs.AsCoded as ending;
 
 // What a settling adds, in numbers: so many steps of a kind, so many Pointers before the body of the reported type.
 pub struct Ending {

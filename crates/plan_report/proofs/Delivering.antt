@@ -9,7 +9,8 @@ use lib.Dec.{ltb}
 use lib.ListN.{length, take, replicate, length-append, length-replicate}
 use lib.Seq.{take-at, length-take-le}
 use borrow.Author.Tests.{lt-ltb, le-ltb, ltb-false}
-use Rattle.type_layers.specs.Layers.{Layer, layers, spelled, Whole}
+use Rattle.type_layers.specs.Layers.{Layer, layers, spelled}
+use Rattle.type_layers.specs.AsCoded.{Whole}
 use Rattle.type_layers.specs.Answer.{Answer, given, refused}
 use Rattle.type_layers.proofs.Spelling.{spelled-length, spelled-append, spelled-layers}
 use Rattle.write_words.specs.Written.{written}

@@ -7,7 +7,7 @@ use write_words::write_words;
 ghost use mathlib.Core.Path.{_≡_};
 ghost use Prim.Native.Nat.{_*_, _≤_};
 ghost use lib.ListN.{length, take};
-ghost use Rattle.type_layers.specs.Layers.{Whole};
+ghost use Rattle.type_layers.specs.AsCoded.{Whole};
 ghost use Rattle.plan_report.specs.Report as report;
 ghost use Rattle.plan_report.specs.Plan.{planned};
 

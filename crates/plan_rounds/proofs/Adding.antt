@@ -8,7 +8,8 @@ use native.Mathlib.Nat.{add-zero}
 use lib.ListN.{length}
 use Rattle.type_numbers.specs.StepKind as of-step
 use Rattle.type_numbers.specs.Mark as of-mark
-use Rattle.plan_steps.specs.Steps.{Step, step, stepWords, putStep}
+use Rattle.plan_steps.specs.Steps.{Step, step, stepWords}
+use Rattle.plan_steps.specs.AsCoded.{putStep}
 use Rattle.plan_steps.proofs.Words.{words-append, put-length}
 use Rattle.plan_turn.specs.Turn.{ofTurn}
 use Rattle.plan_turn.specs.declared.turn.Turn.{Turn}

@@ -9,7 +9,8 @@ use lib.Dec.{eqb}
 use lib.ListN.{length, take, replicate, length-drop}
 use lib.Seq.{length-take-le}
 use Rattle.type_numbers.specs.Kind as kind
-use Rattle.type_layers.specs.Layers.{Layer, layers, Whole}
+use Rattle.type_layers.specs.Layers.{Layer, layers}
+use Rattle.type_layers.specs.AsCoded.{Whole}
 use Rattle.type_layers.specs.Answer.{refused}
 use Rattle.type_layers.proofs.Spelling.{spelled-length, spelled-layers, layers-drop}
 use Rattle.type_parts.specs.Parts.{references, fullyDereferenced}
@@ -22,8 +23,8 @@ use Rattle.plan_settling.specs.Settling.{settleBy, ofSettling, Settles}
 use Rattle.plan_ending.specs.declared.ending.Ending.{Ending}
 use Rattle.plan_rounds.specs.Settled.{withSettling}
 use Rattle.plan_report.specs.Report.{delivered}
-use Rattle.plan_rounds.specs.Settled.{finished}
-use Rattle.plan_ending.specs.Ending.{endingOf, bodyOf}
+use Rattle.plan_rounds.specs.AsCoded.{finished}
+use Rattle.plan_ending.specs.AsCoded.{endingOf, bodyOf}
 use Rattle.plan_report.specs.Plan.{planned}
 use Rattle.plan_rounds.proofs.Pushing.{Pushed}
 

@@ -16,7 +16,7 @@ use Rattle.plan_turn.proofs.Cases.{cases}
 use Rattle.symbol_members.specs.Member.{Stored}
 use Rattle.symbol_members.specs.Members.{ofLayers}
 use Rattle.plan_rounds.specs.Rounds.{goes, turnAt, memberType}
-use Rattle.plan_rounds.specs.Onto.{onto}
+use Rattle.plan_rounds.specs.AsCoded.{onto}
 use Rattle.plan_rounds.proofs.Refusing.{memberRefusal, refusal}
 
 -- the layers inside

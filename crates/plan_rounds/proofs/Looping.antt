@@ -8,18 +8,18 @@ use native.Mathlib.Omega.{arith}
 use lib.ListN.{length, take, drop, replicate, length-replicate}
 use mir.Syntax.{w64}
 use mir.Val.{Fits}
-use Rattle.type_layers.specs.Layers.{layers, Whole}
+use Rattle.type_layers.specs.Layers.{layers}
+use Rattle.type_layers.specs.AsCoded.{Whole}
 use Rattle.type_layers.specs.Answer.{Answer, refused}
-use Rattle.plan_steps.proofs.Words.{stepAt}
+use Rattle.plan_steps.specs.AsCoded.{stepAt}
 use Rattle.plan_turn.specs.Turn.{Turn}
 use Rattle.plan_report.specs.declared.report.Report.{Report}
 use Rattle.plan_report.specs.Plan.{Plan}
 use Rattle.plan_report.specs.Report.{notGiven, told, stepsOver, typeOver}
 use Rattle.plan_report.proofs.Delivering as outcome
 use Rattle.plan_rounds.specs.Rounds.{stepsOf, takenBy, turnAt}
-use Rattle.plan_rounds.specs.Onto.{onto}
+use Rattle.plan_rounds.specs.AsCoded.{onto, AllWhole, finished, planInRounds}
 use Rattle.plan_rounds.proofs.Refusing.{refusal}
-use Rattle.plan_rounds.specs.Settled.{AllWhole, finished, planInRounds}
 use Rattle.plan_rounds.proofs.Pushing.{Pushed}
 use Rattle.plan_rounds.proofs.Reading.{onto-whole}
 use Rattle.plan_rounds.proofs.Turning.{So, start, ends, stops, turns, steps-few, took-few}

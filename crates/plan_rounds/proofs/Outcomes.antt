@@ -9,7 +9,7 @@ use Rattle.plan_steps.specs.Steps.{steps}
 use Rattle.symbol_members.specs.Members.{ofLayers}
 use Rattle.plan_rounds.specs.Rounds.{ended, stopped, inRounds}
 use Rattle.plan_report.specs.Report.{delivered}
-use Rattle.plan_rounds.specs.Settled.{finished, planInRounds}
+use Rattle.plan_rounds.specs.AsCoded.{finished, planInRounds}
 
 module _ (member : ℕ → List ℕ) (known asked target : List ℕ) (level rounds : ℕ) where
   pub rounds-refused : (room wide e : ℕ) → inRounds (λ id. ofLayers (layers (member id))) rounds (layers known) (steps asked) ≡ stopped e →

@@ -6,7 +6,8 @@ use Prim.Native.Nat.{ℕ, zero, suc, _+_, _*_, _≤_, _<_}
 use native.Mathlib.Omega.{arith}
 use native.Mathlib.Nat.{add-zero}
 use lib.ListN.{length, take, replicate, length-replicate}
-use Rattle.plan_steps.specs.Steps.{Step, step, stepWords, putStep}
+use Rattle.plan_steps.specs.Steps.{Step, step, stepWords}
+use Rattle.plan_steps.specs.AsCoded.{putStep}
 use Rattle.plan_steps.proofs.Words.{words-append, put-take, put-length}
 
 -- the steps ss are written from step n on

@@ -9,19 +9,19 @@ use lib.Dec.{eqb}
 use lib.ListN.{length, getD, take, drop, drop-of-length-le, List·getD-eq-default}
 use lib.Seq.{drop-length}
 use borrow.Author.Tests.{eq-eqb, ne-eqb, not-true, not-false}
-use Rattle.type_layers.specs.Layers.{layers, outer, head, Whole}
+use Rattle.type_layers.specs.Layers.{layers, outer}
+use Rattle.type_layers.specs.AsCoded.{head, Whole}
 use Rattle.type_layers.proofs.Words.{none, more, rest, inner-layers, inner-whole, part-is}
 use Rattle.type_wellformed.specs.WellFormed.{wellFormed}
-use Rattle.plan_steps.proofs.Words.{stepAt}
+use Rattle.plan_steps.specs.AsCoded.{stepAt}
 use Rattle.plan_turn.specs.Round.{turn}
 use Rattle.plan_turn.specs.Turn as paper
 use Rattle.plan_turn.specs.Turn.{ofTurn}
 use Rattle.plan_turn.specs.declared.turn.Turn.{Turn}
 use Rattle.plan_turn.specs.declared.turn.Turn.the-variants.{Stuck, Auto, Element, Desliced, Member}
 use Rattle.plan_rounds.specs.Rounds.{turnAt}
-use Rattle.plan_rounds.specs.Onto.{onto}
+use Rattle.plan_rounds.specs.AsCoded.{onto, AllWhole}
 use Rattle.plan_rounds.proofs.Refusing.{refusal}
-use Rattle.plan_rounds.specs.Settled.{AllWhole}
 
 -- a word past the end
 pub past : (q : List ℕ) (i : ℕ) → length q ≤ i → 0 ≡ getD q i 0

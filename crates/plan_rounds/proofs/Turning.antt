@@ -13,12 +13,13 @@ use lib.ListN.{length, take, drop, length-append, drop-of-length-le}
 use Rattle.type_layers.specs.Layers.{Layer, layers}
 use Rattle.type_layers.specs.Answer.{given, refused}
 use Rattle.plan_steps.specs.Steps.{Step, steps, stepWords}
-use Rattle.plan_steps.proofs.Words.{stepAt, steps-none, steps-more, words-append, words-back}
+use Rattle.plan_steps.proofs.Words.{steps-none, steps-more, words-append, words-back}
+use Rattle.plan_steps.specs.AsCoded.{stepAt}
 use Rattle.plan_turn.specs.Turn.{Turn, Stuck, Auto, Element, Desliced, Member}
 use Rattle.symbol_members.specs.Member.{Stored}
 use Rattle.symbol_members.specs.Members.{ofLayers}
 use Rattle.plan_rounds.specs.Rounds.{Rounds, ended, stopped, stepsOf, takenBy, goes, turnAt, prepend, inRounds}
-use Rattle.plan_rounds.specs.Onto.{onto}
+use Rattle.plan_rounds.specs.AsCoded.{onto}
 use Rattle.plan_rounds.proofs.Refusing.{refusal}
 use Rattle.plan_rounds.proofs.Pushing.{Pushed}
 use Rattle.plan_rounds.proofs.Going.{going}

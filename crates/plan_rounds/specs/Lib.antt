@@ -1,3 +1,3 @@
 pub mod Rounds
-pub mod Onto
 pub mod Settled
+pub mod AsCoded

@@ -11,10 +11,11 @@ ghost use mathlib.Core.List.{_++_};
 ghost use Prim.Native.Nat.{_+_, _*_, _≤_};
 ghost use lib.ListN.{length, take, replicate};
 ghost use Rattle.type_numbers.specs.Limit as limit;
-ghost use Rattle.type_layers.specs.Layers.{layers, Whole};
+ghost use Rattle.type_layers.specs.Layers.{layers};
+ghost use Rattle.type_layers.specs.AsCoded.{Whole};
 ghost use Rattle.plan_steps.specs.Steps.{step, stepWords};
 ghost use Rattle.plan_report.specs.Report as report;
-ghost use Rattle.plan_rounds.specs.Settled.{finished};
+ghost use Rattle.plan_rounds.specs.AsCoded.{finished};
 
 // Writes so many steps of a kind from step n on; where the next step goes.
 fn push_autos(buf: &mut [u64], n: usize, kind: u64, count: usize) -> usize

@@ -13,11 +13,11 @@ ghost use Prim.Native.Nat.{_+_, _*_, _≤_};
 ghost use lib.ListN.{length, take, getD};
 ghost use Rattle.type_layers.specs.Layers.{layers};
 ghost use Rattle.plan_steps.specs.Steps.{stepWords};
-ghost use Rattle.plan_steps.proofs.Words.{stepAt};
+ghost use Rattle.plan_steps.specs.AsCoded.{stepAt};
 ghost use Rattle.plan_turn.specs.Turn.{ofTurn};
-ghost use Rattle.symbol_members.specs.Members.{memberIn};
+ghost use Rattle.symbol_members.specs.AsCoded.{memberIn};
 ghost use Rattle.plan_rounds.specs.Rounds.{stepsOf, takenBy, turnAt};
-ghost use Rattle.plan_rounds.specs.Onto as rounds;
+ghost use Rattle.plan_rounds.specs.AsCoded as rounds;
 
 // The word at i, 0 past the end.
 fn word(q: &[u64], i: usize) -> u64

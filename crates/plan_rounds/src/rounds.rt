@@ -14,10 +14,10 @@ ghost use mathlib.Core.Path.{_≡_};
 ghost use Prim.Native.Nat.{_≤_, _*_};
 ghost use lib.ListN.{length, drop};
 ghost use Rattle.type_numbers.specs.Limit as limit;
-ghost use Rattle.type_layers.specs.Layers.{Whole};
-ghost use Rattle.symbol_members.specs.Members.{memberIn};
+ghost use Rattle.type_layers.specs.AsCoded.{Whole};
+ghost use Rattle.symbol_members.specs.AsCoded.{memberIn};
 ghost use Rattle.plan_report.specs.Report as report;
-ghost use Rattle.plan_rounds.specs.Settled.{AllWhole, planInRounds};
+ghost use Rattle.plan_rounds.specs.AsCoded.{AllWhole, planInRounds};
 
 // The steps after the first k.
 fn after(q: &[u64], k: usize) -> &[u64]

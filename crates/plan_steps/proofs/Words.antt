@@ -6,14 +6,11 @@ use mathlib.Core.List.{List, [], _∷_, _++_}
 use Prim.Native.Nat.{ℕ, suc, _+_, _*_, _-_, _%_, _≤_, _<_}
 use native.Mathlib.Omega.{arith}
 use lib.Dec.{leb}
-use lib.ListN.{length, take, drop, set, getD, length-append, length-take, length-drop}
+use lib.ListN.{length, take, drop, set, length-append, length-take, length-drop}
 use lib.Seq.{sets-eq, take-at}
 use borrow.Author.Tests.{leb-true, le-leb, lt-leb}
-use Rattle.plan_steps.specs.Steps.{Step, step, steps, stepWords, putStep, goodStep, goodSteps}
-
--- the first step of a run of words
-abbrev pub stepAt : List ℕ → Step
-stepAt q = step (getD q 0 0) (getD q 1 0) (getD q 2 0) (getD q 3 0)
+use Rattle.plan_steps.specs.Steps.{Step, step, steps, stepWords, goodStep, goodSteps}
+use Rattle.plan_steps.specs.AsCoded.{putStep, stepAt}
 
 pub steps-none : (q : List ℕ) → length q < 4 → steps q ≡ []
 unfolding steps

@@ -1,9 +1,9 @@
 -- How a step is written, and which runs of words are runs of steps.
 use mathlib.Core.Bool.{Bool, true, cond, _&&_, _||_}
-use mathlib.Core.List.{List, [], _∷_, _++_}
-use Prim.Native.Nat.{ℕ, _+_, _/_, _%_}
+use mathlib.Core.List.{List, [], _∷_}
+use Prim.Native.Nat.{ℕ, _/_, _%_}
 use lib.Dec.{eqb, leb}
-use lib.ListN.{length, take, drop}
+use lib.ListN.{length}
 use Rattle.type_numbers.specs.Limit as limit
 use Rattle.type_numbers.specs.Mark as of-mark
 use Rattle.type_numbers.specs.Refusal as refusal
@@ -30,10 +30,6 @@ steps [] = []
 unfoldable pub stepWords : List Step → List ℕ
 stepWords [] = []
 stepWords (s ∷ ss) = s .kind ∷ s .handle ∷ s .mark ∷ s .number ∷ stepWords ss
-
--- A step's words over those from a place on; the run itself where they do not fit.
-unfoldable pub putStep : Step → ℕ → List ℕ → List ℕ
-putStep s at b = cond (leb (at + 4) (length b)) (take at b ++ stepWords (s ∷ []) ++ drop (at + 4) b) b
 
 -- "handles u32"
 abbrev pub isHandle : ℕ → Bool

@@ -1,5 +1,6 @@
 ghost use mathlib.Core.Path.{_≡_};
-ghost use Rattle.plan_steps.specs.Steps.{step, putStep};
+ghost use Rattle.plan_steps.specs.Steps.{step};
+ghost use Rattle.plan_steps.specs.AsCoded.{putStep};
 
 // Writes a step's four words over those from `at` on; nothing where they do not fit.
 pub fn four(buf: &mut [u64], at: usize, k: u64, h: u64, m: u64, n: u64)

@@ -8,7 +8,8 @@ use native.Mathlib.Omega.{arith}
 use lib.Dec.{ltb}
 use lib.ListN.{length}
 use borrow.Author.Tests.{lt-ltb, le-ltb, ltb-false, not-true, not-false}
-use Rattle.type_layers.specs.Layers.{layers, Whole}
+use Rattle.type_layers.specs.Layers.{layers}
+use Rattle.type_layers.specs.AsCoded.{Whole}
 use Rattle.type_layers.specs.Answer.{Answer, given, refused, next, ofChecked}
 use Rattle.type_checks.specs.Check.{Place, at, nowhere, badCount, badLayer, misplaced, unless, checkOf}
 use Rattle.type_layers.specs.declared.answers.Checked.{Checked}
@@ -17,21 +18,22 @@ use Rattle.type_layers.proofs.Given.{not-given}
 use Rattle.type_checks.proofs.Accepted.{accepted-whole}
 use Rattle.type_wellformed.specs.WellFormed.{wellFormed}
 use Rattle.symbol_columns.specs.declared.symbol.Symbol.{Symbol}
-use Rattle.symbol_columns.specs.Rows.{readFrom}
-use Rattle.symbol_lent.specs.Gathered.{gathered}
+use Rattle.symbol_columns.specs.AsCoded.{readFrom}
+use Rattle.symbol_lent.specs.AsCoded.{gathered}
 use Rattle.symbol_order.specs.Order.{inOrder}
 use Rattle.symbol_columns.proofs.Reading.{length-read}
 use Rattle.symbol_lent.proofs.Gathering.{swapped}
 use Rattle.symbol_order.proofs.Ordered.{ordered, too-long}
 use Rattle.plan_steps.specs.Steps.{stepsAnswer}
-use Rattle.symbol_members.specs.Members.{memberIn, ofLayers, members}
+use Rattle.symbol_members.specs.Members.{ofLayers, members}
+use Rattle.symbol_members.specs.AsCoded.{memberIn}
 use Rattle.symbol_members.proofs.Storing.{at-most, member-whole}
 use Rattle.plan_report.specs.Plan.{Plan}
 use Rattle.planner.specs.Plan.{planOf}
 use Rattle.plan_report.specs.Report.{delivered, notGiven, told, stepsOver, typeOver}
 use Rattle.plan_report.specs.declared.report.Report.{Report}
 use Rattle.plan_report.proofs.Delivering.{told-refused, steps-stay, type-stays}
-use Rattle.plan_rounds.specs.Settled.{AllWhole, planInRounds}
+use Rattle.plan_rounds.specs.AsCoded.{AllWhole, planInRounds}
 use Rattle.planner.specs.Answers.{limits, question, planned, planAnswer}
 
 -- the limits

@@ -31,8 +31,8 @@ use Rattle.type_layers.proofs.Spelling.{spelled-length, layers-spelled}
 use Rattle.write_words.specs.Written.{written}
 use Rattle.write_words.proofs.Writing.{fits}
 use Rattle.symbol_columns.specs.declared.symbol.Symbol.{Symbol}
-use Rattle.symbol_columns.specs.Rows as rows
-use Rattle.symbol_columns.specs.Rows.{vacant}
+use Rattle.symbol_columns.specs.Record as rows
+use Rattle.symbol_columns.specs.Record.{vacant}
 use Rattle.symbol_columns.specs.StoredWords.{slotWords, storedWords}
 use Rattle.symbol_search.specs.Search.{slotFor}
 use Rattle.symbol_order.specs.Order.{inOrder}

@@ -14,8 +14,8 @@ ghost use Prim.Native.Nat.{_≤_};
 ghost use lib.ListN.{length};
 ghost use Rattle.type_numbers.specs.Limit as limit;
 ghost use Rattle.type_layers.specs.Answer.{ofChecked};
-ghost use Rattle.type_layers.specs.Layers.{Whole};
-ghost use Rattle.symbol_columns.specs.Rows.{readFrom};
+ghost use Rattle.type_layers.specs.AsCoded.{Whole};
+ghost use Rattle.symbol_columns.specs.AsCoded.{readFrom};
 ghost use Rattle.plan_report.specs.Report as report;
 ghost use Rattle.planner.specs.Answers as answers;
 

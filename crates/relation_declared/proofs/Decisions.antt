@@ -7,7 +7,8 @@ use Prim.Native.Nat.{ℕ, _≤_, _<_}
 use lib.Dec.{eqb, ltb}
 use lib.ListN.{length, getD}
 use Rattle.type_numbers.specs.Kind as kind
-use Rattle.type_layers.specs.Layers.{isSlice, layers, head, outer, innerWords}
+use Rattle.type_layers.specs.Layers.{isSlice, layers, outer, innerWords}
+use Rattle.type_layers.specs.AsCoded.{head}
 use Rattle.type_layers.proofs.Words.{rest, none, more, inner-layers}
 use Rattle.relation_equals.specs.Equals.{identical}
 use Rattle.relation_equals.proofs.Steps.{no-layer}

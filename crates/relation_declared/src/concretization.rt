@@ -10,7 +10,8 @@ use type_numbers::Kind;
 ghost use mathlib.Core.Path.{_≡_};
 ghost use Prim.Native.Nat.{_≤_};
 ghost use lib.ListN.{length};
-ghost use Rattle.type_layers.specs.Layers.{layers, head};
+ghost use Rattle.type_layers.specs.Layers.{layers};
+ghost use Rattle.type_layers.specs.AsCoded.{head};
 ghost use Rattle.relation_declared.specs.Declared as rules;
 
 // The same outer kind that holds an inner type, with the same length or name.

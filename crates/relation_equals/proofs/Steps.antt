@@ -9,7 +9,8 @@ use lib.Dec.{eqb, ltb}
 use lib.ListN.{length}
 use borrow.Author.Tests.{le-ltb, eqb-true}
 use Rattle.type_numbers.specs.Kind as kind
-use Rattle.type_layers.specs.Layers.{Layer, layers, head}
+use Rattle.type_layers.specs.Layers.{Layer, layers}
+use Rattle.type_layers.specs.AsCoded.{head}
 use Rattle.type_layers.proofs.Words.{rest, none, more}
 use Rattle.type_layers.proofs.Decide.{eqb-sym}
 use Rattle.relation_equals.specs.Equals.{sameLayer, identical, plainKind, plainLayer, plain, equals}

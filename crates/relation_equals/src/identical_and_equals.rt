@@ -5,7 +5,8 @@ ghost use Prim.Native.Nat.{_≤_};
 ghost use lib.Dec.{eqb};
 ghost use lib.ListN.{length};
 ghost use Rattle.type_numbers.specs.Kind as kind;
-ghost use Rattle.type_layers.specs.Layers.{layers, head};
+ghost use Rattle.type_layers.specs.Layers.{layers};
+ghost use Rattle.type_layers.specs.AsCoded.{head};
 ghost use Rattle.relation_equals.specs.Equals as rules;
 
 fn same_layer(a: &[u64], b: &[u64]) -> bool

@@ -17,7 +17,7 @@ use Rattle.sheet_contents.specs.Contents.{types}
 use Rattle.sheet_read.specs.Sheet.{readSheet}
 use Rattle.sheet_read.proofs.Read.{Read, was-read, small-number}
 use Rattle.sheet_words.proofs.Decoding.{words-back}
-use Rattle.sheet_text.specs.Put.{putAt}
+use Rattle.sheet_text.specs.AsCoded.{putAt}
 use Rattle.sheet_pairs.specs.Text.{header, rows, refusal, text}
 use Rattle.sheet_text.proofs.Putting.{digits-few}
 use Rattle.sheet_pairs.proofs.Texts.{all-short}

@@ -9,7 +9,7 @@ use sheet_text::put_number;
 ghost use mathlib.Core.Path.{_≡_};
 ghost use Prim.Native.Nat.{_+_, _≤_, _<_};
 ghost use lib.ListN.{length};
-ghost use Rattle.sheet_text.specs.Put.{putAt};
+ghost use Rattle.sheet_text.specs.AsCoded.{putAt};
 ghost use Rattle.sheet_pairs.specs.Text as text;
 
 fn digit(yes: bool) -> u8

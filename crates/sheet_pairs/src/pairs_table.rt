@@ -13,7 +13,7 @@ ghost use lib.ListN.{length, take};
 ghost use Rattle.type_numbers.specs.Limit as limit;
 ghost use Rattle.write_words.specs.Written.{written};
 ghost use Rattle.sheet_contents.specs.Contents.{types, typeAt};
-ghost use Rattle.sheet_text.specs.Put.{putAt};
+ghost use Rattle.sheet_text.specs.AsCoded.{putAt};
 ghost use Rattle.sheet_pairs.specs.Text as text;
 
 // Puts the lines of one left type against each of the n types of a sheet: 32 of 18 bytes at most.

@@ -9,7 +9,8 @@ use lib.ListN.{length, take, drop, getD}
 use mir.Syntax.{w64}
 use mir.Val.{Fits}
 use Rattle.symbol_columns.specs.declared.symbol.Symbol.{Symbol}
-use Rattle.symbol_columns.specs.Rows.{vacant, readFrom, rowUnder}
+use Rattle.symbol_columns.specs.Record.{vacant}
+use Rattle.symbol_columns.specs.AsCoded.{readFrom, rowUnder}
 use Rattle.symbol_order.specs.Order.{inOrder}
 use Rattle.symbol_columns.proofs.Reading.{length-read, row-found}
 use Rattle.write_answer.specs.declared.answer.Answer.{Answer}
@@ -27,8 +28,10 @@ use Rattle.symbol_slot.specs.Slot.{wayOf, ofWay}
 use Rattle.symbol_slot.specs.declared.slot.Way.{Way}
 use Rattle.symbol_slot.specs.declared.slot.Way.the-variants as code
 use Rattle.symbol_slot.proofs.Decided.{Within, found-in, found-has, new-in}
-use Rattle.symbol_record.specs.Record.{filled, filledWords, overwrites, seen}
-use Rattle.symbol_change.specs.Change.{outcomeBy, nothingPut, outcome, nowhere, isChanged, inSlot, ifChanged, changeOf, storeOf}
+use Rattle.symbol_record.specs.Deed.{filled, filledWords, overwrites}
+use Rattle.symbol_record.specs.AsCoded.{seen}
+use Rattle.symbol_change.specs.Change.{outcomeBy, nothingPut, outcome}
+use Rattle.symbol_change.specs.AsCoded.{nowhere, isChanged, inSlot, ifChanged, changeOf, storeOf}
 use Rattle.symbol_change.specs.declared.change.Change.{Change}
 
 -- a record that was found

@@ -9,7 +9,7 @@ use lib.Dec.{T, eqb, leb, leb→le, nleb→lt}
 use lib.ListN.{length, getD, set}
 use borrow.Author.Tests.{eqb-true}
 use Rattle.symbol_columns.specs.declared.symbol.Symbol.{Symbol}
-use Rattle.symbol_columns.specs.Rows.{vacant}
+use Rattle.symbol_columns.specs.Record.{vacant}
 use Rattle.symbol_columns.specs.StoredWords.{slotWords}
 use Rattle.write_answer.specs.declared.answer.Answer.{Answer}
 use Rattle.symbol_update.specs.Update.{updated}
@@ -21,8 +21,10 @@ use Rattle.symbol_slot.specs.Way as way
 use Rattle.symbol_slot.specs.Way.{Way}
 use Rattle.symbol_slot.specs.Slot.{wayOf}
 use Rattle.symbol_slot.proofs.Decided.{found-in, new-in}
-use Rattle.symbol_record.specs.Record.{Deed, overwrites, seen}
-use Rattle.symbol_change.specs.Change.{outcomeBy, outcome, nowhere, inSlot, isChanged, changeBy, changeOf, storeOf}
+use Rattle.symbol_record.specs.Deed.{Deed, overwrites}
+use Rattle.symbol_record.specs.AsCoded.{seen}
+use Rattle.symbol_change.specs.Change.{outcomeBy, outcome}
+use Rattle.symbol_change.specs.AsCoded.{nowhere, inSlot, isChanged, changeBy, changeOf, storeOf}
 use Rattle.symbol_change.specs.declared.change.Change.{Change}
 
 -- a list with one of its elements put in its place

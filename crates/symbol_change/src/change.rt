@@ -19,10 +19,11 @@ use write_answer::Answer;
 use write_answer::accepted;
 use write_answer::refused;
 ghost use mathlib.Core.Path.{_≡_};
-ghost use Rattle.symbol_columns.specs.Rows.{readFrom};
+ghost use Rattle.symbol_columns.specs.AsCoded.{readFrom};
 ghost use Rattle.symbol_operations.specs.Operation.{acts};
 ghost use Rattle.symbol_operations.specs.Operations.{ofAct, ofOperation};
 ghost use Rattle.symbol_change.specs.Change as rules;
+ghost use Rattle.symbol_change.specs.AsCoded as as-coded;
 
 // A slot and its new record, with the answer. Past the last slot: no record is stored.
 pub struct Change {
@@ -32,7 +33,7 @@ pub struct Change {
 }
 
 fn nowhere(n: usize, answer: Answer) -> Change
-    ensures { λ r. ⌜ r ≡ rules.nowhere n answer ⌝ }
+    ensures { λ r. ⌜ r ≡ as-coded.nowhere n answer ⌝ }
 {
     let s = Symbol {
         id: 0,
@@ -50,14 +51,14 @@ fn nowhere(n: usize, answer: Answer) -> Change
 }
 
 fn is_changed(a: Answer) -> bool
-    ensures { λ r. ⌜ r ≡ rules.isChanged a ⌝ }
+    ensures { λ r. ⌜ r ≡ as-coded.isChanged a ⌝ }
 {
     (a.refusal == 0) & (a.value != Effect::KEPT)
 }
 
 // What became of the record that was found.
 fn if_changed(n: usize, slot: usize, u: Updated) -> Change
-    ensures { λ r. ⌜ r ≡ rules.ifChanged n slot u ⌝ }
+    ensures { λ r. ⌜ r ≡ as-coded.ifChanged n slot u ⌝ }
 {
     let symbol = u.symbol;
     let answer = u.answer;
@@ -74,7 +75,7 @@ fn if_changed(n: usize, slot: usize, u: Updated) -> Change
 
 // A put with nothing: the table is judged, and that is all.
 fn keep(flat: &Columns, n: usize, store: &[u64]) -> Change
-    ensures { λ r. ⌜ r ≡ rules.nowhere n (rules.nothingPut (readFrom (now (flat .entry)) 0 n) (now (store .entry))) ⌝ }
+    ensures { λ r. ⌜ r ≡ as-coded.nowhere n (rules.nothingPut (readFrom (now (flat .entry)) 0 n) (now (store .entry))) ⌝ }
 {
     if in_order(flat, n, store) {
         nowhere(n, accepted(Effect::KEPT))
@@ -95,8 +96,8 @@ fn act_in(
     mark: u64,
     offered: &[u64],
 ) -> Change
-    ensures { λ r. ⌜ (r ≡ rules.changeOf (acts (ofAct act)) id authority place mark (now (offered .entry)) (readFrom (now (flat .entry)) 0 n) (now (store .entry)))
-        × (now (store .exit) ≡ rules.storeOf (acts (ofAct act)) id authority place mark (now (offered .entry)) (readFrom (now (flat .entry)) 0 n) (now (store .entry))) ⌝ }
+    ensures { λ r. ⌜ (r ≡ as-coded.changeOf (acts (ofAct act)) id authority place mark (now (offered .entry)) (readFrom (now (flat .entry)) 0 n) (now (store .entry)))
+        × (now (store .exit) ≡ as-coded.storeOf (acts (ofAct act)) id authority place mark (now (offered .entry)) (readFrom (now (flat .entry)) 0 n) (now (store .entry))) ⌝ }
 {
     match way_of(act, flat, n, store, id, offered) {
         Way::Refused { number, place: at } => nowhere(n, refused(number, at)),
@@ -132,8 +133,8 @@ pub fn choose(
     mark: u64,
     offered: &[u64],
 ) -> Change
-    ensures { λ r. ⌜ (r ≡ rules.changeOf (ofOperation operation) id authority place mark (now (offered .entry)) (readFrom (now (flat .entry)) 0 n) (now (store .entry)))
-        × (now (store .exit) ≡ rules.storeOf (ofOperation operation) id authority place mark (now (offered .entry)) (readFrom (now (flat .entry)) 0 n) (now (store .entry))) ⌝ }
+    ensures { λ r. ⌜ (r ≡ as-coded.changeOf (ofOperation operation) id authority place mark (now (offered .entry)) (readFrom (now (flat .entry)) 0 n) (now (store .entry)))
+        × (now (store .exit) ≡ as-coded.storeOf (ofOperation operation) id authority place mark (now (offered .entry)) (readFrom (now (flat .entry)) 0 n) (now (store .entry))) ⌝ }
 {
     match act_of(operation) {
         Asked::Nothing => keep(flat, n, store),

@@ -9,7 +9,8 @@ use native.Mathlib.Numerals.{add-one}
 use native.Mathlib.Omega.{arith}
 use lib.ListN.{length, getD}
 use borrow.Author.Tests.{lt-ltb, le-ltb}
-use Rattle.symbol_columns.specs.Rows.{vacant, rowAt, readFrom, under, rowUnder}
+use Rattle.symbol_columns.specs.Record.{vacant}
+use Rattle.symbol_columns.specs.AsCoded.{rowAt, readFrom, under, rowUnder}
 use Rattle.symbol_columns.specs.declared.symbol.Symbol.{Symbol}
 
 -- the records from i on, of n

@@ -4,7 +4,7 @@ use crate::symbol::Symbol;
 use type_numbers::Limit;
 use type_numbers::State;
 ghost use mathlib.Core.Path.{_≡_};
-ghost use Rattle.symbol_columns.specs.Rows as rows;
+ghost use Rattle.symbol_columns.specs.AsCoded as rows;
 
 fn bit(b: bool) -> u64
     ensures { λ r. ⌜ r ≡ rows.bit b ⌝ }

@@ -8,9 +8,11 @@ use lib.Dec.{eqb, leb}
 use lib.ListN.{length, take, getD}
 use borrow.Author.Tests.{lt-leb, le-leb, leb-false, eq-eqb, ne-eqb, not-true, not-false}
 use Rattle.symbol_columns.specs.declared.symbol.Symbol.{Symbol}
-use Rattle.symbol_columns.specs.Rows.{vacant, readFrom, rowUnder}
+use Rattle.symbol_columns.specs.Record.{vacant}
+use Rattle.symbol_columns.specs.AsCoded.{readFrom, rowUnder}
 use Rattle.symbol_columns.specs.StoredWords.{slotWords, storedWords}
-use Rattle.symbol_search.specs.Search.{slotFor, slotIn}
+use Rattle.symbol_search.specs.Search.{slotFor}
+use Rattle.symbol_search.specs.AsCoded.{slotIn}
 use Rattle.symbol_order.specs.Order.{inOrder}
 use Rattle.symbol_columns.proofs.Reading.{length-read, row-found}
 use Rattle.symbol_search.proofs.Searching.{slot-has}

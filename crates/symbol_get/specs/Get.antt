@@ -7,7 +7,7 @@ use lib.ListN.{length, getD}
 use Rattle.type_numbers.specs.Refusal as refusal
 use Rattle.type_numbers.specs.State as of-state
 use Rattle.symbol_columns.specs.declared.symbol.Symbol.{Symbol}
-use Rattle.symbol_columns.specs.Rows.{vacant, typed}
+use Rattle.symbol_columns.specs.Record.{vacant, typed}
 use Rattle.symbol_columns.specs.StoredWords.{slotWords, storedWords}
 use Rattle.symbol_search.specs.Search.{slotFor}
 use Rattle.symbol_order.specs.Order.{inOrder}

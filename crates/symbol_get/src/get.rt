@@ -10,7 +10,7 @@ use write_answer::Answer;
 use write_answer::accepted;
 use write_answer::refused;
 ghost use mathlib.Core.Path.{_≡_};
-ghost use Rattle.symbol_columns.specs.Rows.{readFrom};
+ghost use Rattle.symbol_columns.specs.AsCoded.{readFrom};
 ghost use Rattle.symbol_get.specs.Get as rules;
 
 // What stands under a name: nothing, a type in a slot, or poison with its mark.

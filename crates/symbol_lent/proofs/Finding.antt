@@ -11,7 +11,7 @@ use lib.Dec.{T}
 use lib.ListN.{length, drop, getD, drop-of-length-le}
 use lib.Seq.{drop-cons}
 use Rattle.symbol_columns.specs.declared.symbol.Symbol.{Symbol}
-use Rattle.symbol_columns.specs.Rows.{vacant}
+use Rattle.symbol_columns.specs.Record.{vacant}
 use Rattle.symbol_search.specs.Search.{has, slotFor}
 
 -- a search that has passed i records

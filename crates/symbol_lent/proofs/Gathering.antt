@@ -12,10 +12,11 @@ use lib.Dec.{T, eqb, ltb}
 use lib.ListN.{length, drop, getD, set, replicate, length-replicate, length-set, drop-of-length-le}
 use lib.Seq.{getD-set-same, getD-set-other, drop-cons}
 use borrow.Author.Tests.{lt-ltb, le-ltb, ltb-true, ltb-false, eqb-true, eqb-false}
-use Rattle.symbol_columns.specs.Rows.{vacant, bit, sixSet, putRow, rowAt, readFrom}
+use Rattle.symbol_columns.specs.Record.{vacant}
+use Rattle.symbol_columns.specs.AsCoded.{bit, sixSet, putRow, rowAt, readFrom}
 use Rattle.symbol_columns.specs.declared.symbol.Symbol.{Symbol}
 use Rattle.symbol_columns.proofs.Reading.{length-read}
-use Rattle.symbol_lent.specs.Gathered.{rowsInto, gatheredInto, gathered}
+use Rattle.symbol_lent.specs.AsCoded.{rowsInto, gatheredInto, gathered}
 
 -- a record more in its columns
 module _ (ws : List ℕ) (table : List Symbol) where

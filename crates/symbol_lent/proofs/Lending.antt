@@ -43,7 +43,7 @@ use denote.Triple.Clauses.{ensured, lasts, Lasts}
 use borrow.Table.OneValue.{part-in, part-out}
 use Rattle.symbol_columns.specs.declared.symbol.Symbol.{Symbol}
 use Rattle.symbol_columns.proofs.symbol.Symbol as R
-use Rattle.symbol_lent.specs.Gathered.{gathered}
+use Rattle.symbol_lent.specs.AsCoded.{gathered}
 use Rattle.symbol_lent.proofs.gather_rows.gather as gather
 use Rattle.symbol_lent.proofs.gather_rows.gather.Symbol.{name as #gather}
 

@@ -1,1 +1,1 @@
-pub mod Gathered
+pub mod AsCoded

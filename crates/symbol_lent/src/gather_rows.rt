@@ -3,7 +3,7 @@ use symbol_columns::Symbol;
 use symbol_columns::put_row;
 use type_numbers::Limit;
 ghost use mathlib.Core.Path.{_≡_};
-ghost use Rattle.symbol_lent.specs.Gathered.{gatheredInto};
+ghost use Rattle.symbol_lent.specs.AsCoded.{gatheredInto};
 
 // Writes a table into its columns: ids, authorities, places, states, layer counts, marks, 128 words each. A table of more
 // records has none, and nothing is written.

@@ -11,7 +11,7 @@ use Rattle.type_layers.specs.Answer.{isGiven}
 use Rattle.type_layers.specs.Layers.{layers}
 use Rattle.type_checks.specs.Check.{checkOf}
 use Rattle.symbol_columns.specs.declared.symbol.Symbol.{Symbol}
-use Rattle.symbol_columns.specs.Rows.{vacant, typed}
+use Rattle.symbol_columns.specs.Record.{vacant, typed}
 use Rattle.symbol_columns.specs.StoredWords.{slotWords, storedWords}
 use Rattle.symbol_search.specs.Search.{slotFor}
 use Rattle.symbol_order.specs.Order.{inOrder}

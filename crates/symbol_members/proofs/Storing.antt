@@ -9,18 +9,21 @@ use native.Mathlib.Omega.{arith}
 use lib.ListN.{length, take, getD, List·getD-eq-default}
 use borrow.Author.Tests.{lt-ltb, le-ltb, eq-eqb, ne-eqb}
 use Rattle.type_layers.specs.Answer.{isGiven}
-use Rattle.type_layers.specs.Layers.{Whole}
+use Rattle.type_layers.specs.AsCoded.{Whole}
 use Rattle.type_checks.specs.Check.{checkOf}
 use Rattle.type_checks.proofs.Accepted.{good-whole}
-use Rattle.symbol_columns.specs.Rows.{vacant, rowAt, readFrom, typed}
+use Rattle.symbol_columns.specs.Record.{vacant, typed}
+use Rattle.symbol_columns.specs.AsCoded.{rowAt, readFrom}
 use Rattle.symbol_columns.specs.StoredWords.{slotWords, storedWords}
-use Rattle.symbol_search.specs.Search.{slotIn, slotFor}
+use Rattle.symbol_search.specs.Search.{slotFor}
+use Rattle.symbol_search.specs.AsCoded.{slotIn}
 use Rattle.symbol_order.specs.Order.{passes, inOrder}
 use Rattle.symbol_columns.specs.declared.symbol.Symbol.{Symbol}
 use Rattle.symbol_columns.proofs.Reading.{getD-read, length-read}
 use Rattle.symbol_search.proofs.Searching.{slot-is}
 use Rattle.symbol_order.proofs.Ordered.{ordered, pass-at}
-use Rattle.symbol_members.specs.Members.{wordsAt, memberWords, memberIn}
+use Rattle.symbol_members.specs.Members.{wordsAt, memberWords}
+use Rattle.symbol_members.specs.AsCoded.{memberIn}
 
 -- the record that is found
 module _ (ws store : List ℕ) (n id : ℕ) where

@@ -2,12 +2,10 @@
 use mathlib.Core.Bool.{cond}
 use mathlib.Core.List.{List, [], _∷_}
 use Prim.Native.Nat.{ℕ}
-use lib.Dec.{ltb}
 use lib.ListN.{getD}
-use Rattle.type_numbers.specs.Limit as limit
 use Rattle.type_layers.specs.Layers.{Layer, layers}
 use Rattle.symbol_columns.specs.declared.symbol.Symbol.{Symbol}
-use Rattle.symbol_columns.specs.Rows.{vacant, readFrom, typed}
+use Rattle.symbol_columns.specs.Record.{vacant, typed}
 use Rattle.symbol_columns.specs.StoredWords.{slotWords, storedWords}
 use Rattle.symbol_search.specs.Search.{slotFor}
 use Rattle.symbol_members.specs.Member as stored
@@ -20,10 +18,6 @@ wordsAt s ws = cond (typed s) (storedWords (s .layers) ws) []
 -- The words of the type that is stored under an id; none where it is absent or poisoned.
 unfoldable pub memberWords : List Symbol → List ℕ → ℕ → List ℕ
 memberWords table store id = wordsAt (getD table (slotFor id table) vacant) (slotWords store (slotFor id table))
-
--- The same of columns: of more than 128 rows, none.
-unfoldable pub memberIn : List ℕ → ℕ → List ℕ → ℕ → List ℕ
-memberIn ws n store id = cond (ltb limit.records n) [] (memberWords (readFrom ws 0 n) store id)
 
 abbrev pub ofLayers : List Layer → Stored
 ofLayers [] = stored.absent

@@ -6,7 +6,7 @@ use symbol_search::slot_with;
 use type_numbers::Limit;
 use type_numbers::State;
 ghost use mathlib.Core.Path.{_≡_};
-ghost use Rattle.symbol_members.specs.Members.{memberIn};
+ghost use Rattle.symbol_members.specs.AsCoded.{memberIn};
 
 // The words of the type that is stored under an id; none where it is absent or poisoned.
 pub fn member<'a>(flat: &Columns, n: usize, store: &'a [u64], id: u64) -> &'a [u64]

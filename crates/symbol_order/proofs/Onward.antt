@@ -14,12 +14,13 @@ use borrow.Author.Tests.{lt-leb, eq-eqb, ne-eqb, eqb-true, eqb-false}
 use Rattle.type_layers.specs.Answer.{isGiven}
 use Rattle.type_layers.proofs.Decide.{both, neither, eqb-sym}
 use Rattle.symbol_columns.specs.declared.symbol.Symbol.{Symbol}
-use Rattle.symbol_columns.specs.Rows.{free, rowAt, readFrom}
+use Rattle.symbol_columns.specs.Record.{free}
+use Rattle.symbol_columns.specs.AsCoded.{rowAt, readFrom}
 use Rattle.symbol_columns.specs.StoredWords.{storedWords}
 use Rattle.type_checks.specs.Check.{checkOf}
 use Rattle.symbol_columns.proofs.Reading.{from, read-more, read-end, read-all, read-last, length-read}
 use Rattle.symbol_order.specs.Order.{knownStates, allFree, takenFirst, taken, hasId, repeats, passes, allPass, inOrder}
-use Rattle.symbol_order.specs.Standing.{stands, Noted}
+use Rattle.symbol_order.specs.AsCoded.{stands, Noted}
 use Rattle.symbol_order.proofs.Ordered.{ordered, in-order, none-taken}
 
 -- the pass from a record on

@@ -10,9 +10,11 @@ use lib.ListN.{length, take, drop, getD}
 use lib.Seq.{drop-drop}
 use borrow.Author.Tests.{lt-leb, leb-true, eqb-true, le-leb, eq-eqb, not-true}
 use Rattle.type_layers.proofs.Decide.{both}
-use Rattle.symbol_columns.specs.Rows.{vacant, free, readFrom}
+use Rattle.symbol_columns.specs.Record.{vacant, free}
+use Rattle.symbol_columns.specs.AsCoded.{readFrom}
 use Rattle.symbol_columns.specs.StoredWords.{slotWords}
-use Rattle.symbol_search.specs.Search.{slotFor, firstFree, slotIn, freeIn}
+use Rattle.symbol_search.specs.Search.{slotFor, firstFree}
+use Rattle.symbol_search.specs.AsCoded.{slotIn, freeIn}
 use Rattle.symbol_columns.proofs.Reading.{length-read}
 use Rattle.symbol_search.proofs.Searching.{slot-is, free-is}
 use Rattle.symbol_order.specs.Order.{knownStates, allFree, takenFirst, taken, repeats, passes, allPass, inOrder}

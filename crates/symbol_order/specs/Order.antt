@@ -9,7 +9,7 @@ use Rattle.type_numbers.specs.State as of-state
 use Rattle.type_layers.specs.Answer.{isGiven}
 use Rattle.type_checks.specs.Check.{checkOf}
 use Rattle.symbol_columns.specs.declared.symbol.Symbol.{Symbol}
-use Rattle.symbol_columns.specs.Rows.{free}
+use Rattle.symbol_columns.specs.Record.{free}
 use Rattle.symbol_columns.specs.StoredWords.{storedWords}
 
 -- "states are 0 to 2"

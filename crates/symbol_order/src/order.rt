@@ -8,9 +8,9 @@ ghost use mathlib.Core.Path.{_≡_};
 ghost use Prim.Native.Nat.{_≤_, _<_};
 ghost use lib.ListN.{getD};
 ghost use Rattle.type_numbers.specs.Limit as limit;
-ghost use Rattle.symbol_columns.specs.Rows.{rowAt, readFrom};
+ghost use Rattle.symbol_columns.specs.AsCoded.{rowAt, readFrom};
 ghost use Rattle.symbol_order.specs.Order as order;
-ghost use Rattle.symbol_order.specs.Standing.{Noted, stands};
+ghost use Rattle.symbol_order.specs.AsCoded.{Noted, stands};
 
 // Whether one of the first k records has an id. No early exit, so that the ids are compared side by side.
 fn has_id(flat: &Columns, k: usize, id: u64) -> bool

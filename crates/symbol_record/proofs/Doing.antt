@@ -12,7 +12,8 @@ use Rattle.symbol_update.specs.Update.{typed}
 use Rattle.symbol_operations.specs.Act as act
 use Rattle.symbol_operations.specs.Operations.{ofAct, offersType}
 use Rattle.symbol_operations.specs.declared.operation.Act.{Act}
-use Rattle.symbol_record.specs.Record.{poisoned, filled, filledWords, overwrites, seen}
+use Rattle.symbol_record.specs.Deed.{poisoned, filled, filledWords, overwrites}
+use Rattle.symbol_record.specs.AsCoded.{seen}
 
 -- a record that is filled
 module _ (op : act.Act) (id : ℕ) (authority : Bool) (place mark : ℕ) (offered ws : List ℕ) (t : Bool) (e : t ≡ offersType op) where

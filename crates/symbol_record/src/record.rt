@@ -10,7 +10,8 @@ use write_answer::accepted;
 use write_words::write_words;
 ghost use mathlib.Core.Path.{_≡_};
 ghost use Rattle.symbol_operations.specs.Operations.{ofAct};
-ghost use Rattle.symbol_record.specs.Record as rules;
+ghost use Rattle.symbol_record.specs.Deed as rules;
+ghost use Rattle.symbol_record.specs.AsCoded as as-coded;
 
 fn poisoned(id: u32, authority: bool, place: u64, mark: u64) -> Symbol
     ensures { λ r. ⌜ r ≡ rules.poisoned id authority place mark ⌝ }
@@ -57,7 +58,7 @@ pub fn overwrite(
     mark: u64,
     offered: &[u64],
 ) -> Updated
-    ensures { λ r. ⌜ (r ≡ rules.seen (rules.overwrites (ofAct act) s (now (words .entry)) id authority place mark (now (offered .entry))))
+    ensures { λ r. ⌜ (r ≡ as-coded.seen (rules.overwrites (ofAct act) s (now (words .entry)) id authority place mark (now (offered .entry))))
         × (now (words .exit) ≡ rules.overwrites (ofAct act) s (now (words .entry)) id authority place mark (now (offered .entry)) .words) ⌝ }
 {
     match act {

@@ -8,10 +8,12 @@ use native.Mathlib.Omega.{arith}
 use lib.ListN.{length, getD}
 use lib.Dec.{eqb}
 use borrow.Author.Tests.{eq-eqb, ne-eqb, lt-ltb, le-ltb, eqb-true}
-use Rattle.symbol_columns.specs.Rows.{vacant, free, rowAt, readFrom}
+use Rattle.symbol_columns.specs.Record.{vacant, free}
+use Rattle.symbol_columns.specs.AsCoded.{rowAt, readFrom}
 use Rattle.symbol_columns.specs.declared.symbol.Symbol.{Symbol}
 use Rattle.symbol_columns.proofs.Reading.{from, read-more, read-end, read-all}
-use Rattle.symbol_search.specs.Search.{firstFree, slotFor, freeIn, slotIn}
+use Rattle.symbol_search.specs.Search.{firstFree, slotFor}
+use Rattle.symbol_search.specs.AsCoded.{freeIn, slotIn}
 
 -- a search for a free record that has passed i of them
 abbrev pub FreePassed : List ℕ → ℕ → ℕ → Type 0

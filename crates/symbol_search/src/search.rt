@@ -3,7 +3,7 @@ use symbol_columns::Columns;
 use type_numbers::Limit;
 use type_numbers::State;
 ghost use mathlib.Core.Path.{_≡_};
-ghost use Rattle.symbol_search.specs.Search.{freeIn, slotIn};
+ghost use Rattle.symbol_search.specs.AsCoded.{freeIn, slotIn};
 
 // The first of n records that is free, or n.
 pub fn first_free(flat: &Columns, n: usize) -> usize

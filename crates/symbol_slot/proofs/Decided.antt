@@ -12,8 +12,10 @@ use Rattle.type_checks.specs.Check.{checkOf}
 use Rattle.type_layers.specs.declared.answers.Checked.{Checked}
 use Rattle.type_layers.specs.declared.answers.Checked.the-variants as checked
 use Rattle.symbol_columns.specs.declared.symbol.Symbol.{Symbol}
-use Rattle.symbol_columns.specs.Rows.{vacant, readFrom}
-use Rattle.symbol_search.specs.Search.{slotFor, firstFree, slotIn, freeIn}
+use Rattle.symbol_columns.specs.Record.{vacant}
+use Rattle.symbol_columns.specs.AsCoded.{readFrom}
+use Rattle.symbol_search.specs.Search.{slotFor, firstFree}
+use Rattle.symbol_search.specs.AsCoded.{slotIn, freeIn}
 use Rattle.symbol_columns.proofs.Reading.{length-read}
 use Rattle.symbol_search.proofs.Searching.{slot-has}
 use Rattle.symbol_order.specs.Order.{inOrder}

@@ -9,7 +9,7 @@ use type_layers::Checked;
 use type_numbers::Refusal;
 ghost use mathlib.Core.Path.{_≡_};
 ghost use Rattle.type_layers.specs.Answer.{ofChecked};
-ghost use Rattle.symbol_columns.specs.Rows.{readFrom};
+ghost use Rattle.symbol_columns.specs.AsCoded.{readFrom};
 ghost use Rattle.symbol_operations.specs.Operations.{ofAct};
 ghost use Rattle.symbol_slot.specs.Slot as rules;
 

@@ -6,7 +6,7 @@ use Rattle.type_numbers.specs.Refusal as refusal
 use Rattle.type_layers.specs.Answer as paper
 use Rattle.type_layers.specs.Answer.{given, nothing, refused, next}
 use Rattle.type_checks.specs.Check.{checkOf}
-use Rattle.symbol_columns.specs.Rows.{free}
+use Rattle.symbol_columns.specs.Record.{free}
 use Rattle.symbol_order.specs.Order.{inOrder}
 use Rattle.symbol_columns.specs.declared.symbol.Symbol.{Symbol}
 use Rattle.write_answer.specs.Flat.{notAccepted}

@@ -16,7 +16,7 @@ use Rattle.type_checks.proofs.Checks.{start}
 use Rattle.write_words.specs.Written.{written}
 use Rattle.write_words.proofs.Writing.{length-written}
 use Rattle.symbol_columns.specs.declared.symbol.Symbol.{Symbol}
-use Rattle.symbol_columns.specs.Rows.{free}
+use Rattle.symbol_columns.specs.Record.{free}
 use Rattle.symbol_columns.specs.StoredWords.{storedWords}
 use Rattle.symbol_order.specs.Order.{passes}
 use Rattle.write_answer.specs.declared.answer.Answer.{Answer}
@@ -28,7 +28,7 @@ use Rattle.symbol_operations.specs.Act as act
 use Rattle.symbol_operations.specs.Act.{Act}
 use Rattle.symbol_slot.specs.Slot.{offeredCheck}
 use Rattle.symbol_change.specs.Change.{inserts}
-use Rattle.symbol_record.specs.Record.{poisoned, Deed, deed, overwrites}
+use Rattle.symbol_record.specs.Deed.{poisoned, Deed, deed, overwrites}
 use Rattle.symbol_slot.proofs.Decided.{notRefused}
 
 -- words that are not refused

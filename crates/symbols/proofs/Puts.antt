@@ -18,7 +18,7 @@ use Rattle.relation_equals.specs.Equals.{identical}
 use Rattle.relation_declared.specs.Declared.{concretization}
 use Rattle.relation_equals.proofs.Theorems.{identical-reflexive}
 use Rattle.symbol_columns.specs.declared.symbol.Symbol.{Symbol}
-use Rattle.symbol_columns.specs.Rows.{vacant, free}
+use Rattle.symbol_columns.specs.Record.{vacant, free}
 use Rattle.symbol_columns.specs.StoredWords.{slotWords, storedWords}
 use Rattle.symbol_search.specs.Search.{slotFor}
 use Rattle.symbol_order.specs.Order.{inOrder, taken}
@@ -31,7 +31,7 @@ use Rattle.symbol_update.proofs.Theorems.{poison-wins as update-poison, accepte
 use Rattle.symbol_operations.specs.Act as act
 use Rattle.symbol_operations.specs.Operation.{putNothing, acts}
 use Rattle.symbol_slot.specs.Slot.{placeOf, unless, wayOf}
-use Rattle.symbol_record.specs.Record.{Deed, overwrites}
+use Rattle.symbol_record.specs.Deed.{Deed, overwrites}
 use Rattle.symbol_change.specs.Change.{Outcome, withSlot, outcomeBy, outcome}
 use Rattle.symbol_get.specs.Get.{markFor, got, typeIn, typeOf}
 use Rattle.symbol_get.specs.Got as got′

@@ -12,7 +12,7 @@ use lib.ListN.{length, take, drop, getD, set, length-drop}
 use lib.Seq.{take-append-le, drop-append-le, take-take, drop-drop, take-add, take-at, drop-at, drop-append-add, length-take-le}
 use borrow.Author.Tests.{eq-eqb}
 use Rattle.symbol_columns.specs.declared.symbol.Symbol.{Symbol}
-use Rattle.symbol_columns.specs.Rows.{vacant, free}
+use Rattle.symbol_columns.specs.Record.{vacant, free}
 use Rattle.symbol_columns.specs.StoredWords.{slotWords}
 use Rattle.symbol_search.specs.Search.{firstFree, slotFor}
 use Rattle.symbol_order.specs.Order.{knownStates, allFree, takenFirst, taken, hasId, repeats, passes, allPass}

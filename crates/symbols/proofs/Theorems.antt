@@ -15,7 +15,7 @@ use Rattle.type_checks.specs.Check.{at, checkOf}
 use Rattle.write_words.specs.Written.{written}
 use Rattle.write_words.proofs.Writing.{length-written}
 use Rattle.symbol_columns.specs.declared.symbol.Symbol.{Symbol}
-use Rattle.symbol_columns.specs.Rows.{vacant, free}
+use Rattle.symbol_columns.specs.Record.{vacant, free}
 use Rattle.symbol_columns.specs.StoredWords.{slotWords, storedWords}
 use Rattle.symbol_search.specs.Search.{slotFor}
 use Rattle.symbol_order.specs.Order.{passes, inOrder, takenFirst, taken, hasId, repeats}
@@ -30,7 +30,7 @@ use Rattle.symbol_operations.specs.Act as act
 use Rattle.symbol_operations.specs.Act.{Act}
 use Rattle.symbol_operations.specs.Operation.{Operation, putNothing, acts}
 use Rattle.symbol_slot.specs.Slot.{offeredCheck, wayOf}
-use Rattle.symbol_record.specs.Record.{Deed, deed, overwrites}
+use Rattle.symbol_record.specs.Deed.{Deed, deed, overwrites}
 use Rattle.symbol_change.specs.Change.{inserts, Outcome, withSlot, atSlot, outcomeBy, outcome}
 use Rattle.symbol_get.specs.Get.{markFor, got, typeIn, typeOf}
 use Rattle.symbol_get.specs.Got as got′

@@ -8,8 +8,8 @@ use lib.ListN.{length}
 use Rattle.type_layers.specs.Answer as paper
 use Rattle.type_layers.specs.Answer.{given, nothing, refused}
 use Rattle.symbol_columns.specs.declared.symbol.Symbol.{Symbol}
-use Rattle.symbol_columns.specs.Rows.{readFrom}
-use Rattle.symbol_lent.specs.Gathered.{gathered}
+use Rattle.symbol_columns.specs.AsCoded.{readFrom}
+use Rattle.symbol_lent.specs.AsCoded.{gathered}
 use Rattle.symbol_lent.proofs.Gathering.{swapped}
 use Rattle.symbol_order.proofs.Ordered.{too-long}
 use Rattle.write_answer.specs.Flat.{notAccepted}
@@ -18,7 +18,8 @@ use Rattle.symbol_operations.specs.Operation.{Operation, putNothing, acts}
 use Rattle.symbol_slot.specs.Slot.{offeredCheck, placeOf, unless, wayOf}
 use Rattle.symbol_slot.specs.Way as way
 use Rattle.symbol_slot.specs.Way.{Way}
-use Rattle.symbol_change.specs.Change.{nowhere, outcomeBy, outcome, changeBy, changeOf, storeOf}
+use Rattle.symbol_change.specs.Change.{outcomeBy, outcome}
+use Rattle.symbol_change.specs.AsCoded.{nowhere, changeBy, changeOf, storeOf}
 use Rattle.symbol_change.specs.declared.change.Change.{Change}
 use Rattle.symbol_get.specs.Get.{got, typeIn, typeOf}
 use Rattle.symbol_get.specs.Got as got′

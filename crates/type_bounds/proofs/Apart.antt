@@ -1,7 +1,7 @@
 -- The definition of the answers tells the enum's cases and values apart.
 -- Assumes nothing.
 use mathlib.Core.Path.{_≡_, ap}
-use Rattle.type_bounds.specs.Answer.{ofBound}
+use Rattle.type_bounds.specs.AsCoded.{ofBound}
 use Rattle.type_bounds.specs.declared.bound.Halves.{Halves}
 use Rattle.type_bounds.specs.declared.bound.Bound.{Bound}
 use Rattle.type_bounds.specs.declared.bound.Bound.the-variants as bound

@@ -6,7 +6,7 @@ use type_layers::outer;
 use type_numbers::Kind;
 ghost use mathlib.Core.Path.{_≡_};
 ghost use Rattle.type_layers.specs.Layers.{layers};
-ghost use Rattle.type_bounds.specs.Answer.{ofBound};
+ghost use Rattle.type_bounds.specs.AsCoded.{ofBound};
 ghost use Rattle.type_bounds.specs.Bounds as rules;
 ghost use Rattle.type_bounds.specs.Bounds.{lowestAnswer, highestAnswer};
 

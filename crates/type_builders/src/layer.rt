@@ -1,7 +1,7 @@
 use type_numbers::Kind;
 ghost use mathlib.Core.Path.{_≡_};
 ghost use Rattle.type_numbers.specs.Kind as kind;
-ghost use Rattle.type_numbers.specs.Words.{words};
+ghost use Rattle.type_numbers.specs.AsCoded.{words};
 
 // The functions build a layer of each kind: its three words.
 pub struct Layer;

@@ -8,7 +8,8 @@ use native.Mathlib.Omega.{arith}
 use lib.Dec.{eqb, ltb}
 use lib.ListN.{length}
 use borrow.Author.Tests.{ltb-false, eqb-true, eqb-false}
-use Rattle.type_layers.specs.Layers.{Layer, layers, outer, holdsInner, Whole}
+use Rattle.type_layers.specs.Layers.{Layer, layers, outer, holdsInner}
+use Rattle.type_layers.specs.AsCoded.{Whole}
 use Rattle.type_layers.specs.Answer.{Answer, given, refused, isGiven}
 use Rattle.type_checks.specs.Check.{Place, at, nowhere, badCount, goodLayer, badLayer, misplaced, unless, checkOf}
 use Rattle.type_layers.proofs.Decide.{neither}

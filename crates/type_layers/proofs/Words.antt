@@ -7,7 +7,8 @@ use native.Mathlib.Omega.{arith}
 use lib.ListN.{length, take, drop, getD, length-drop, length-take, drop-of-length-le}
 use lib.Seq.{take-all}
 use lib.Dec.{T, leb, leb→le}
-use Rattle.type_layers.specs.Layers.{layers, outer, inside, head, Whole}
+use Rattle.type_layers.specs.Layers.{layers, outer, inside}
+use Rattle.type_layers.specs.AsCoded.{head, Whole}
 
 -- the words from a place on, as the code takes them
 abbrev pub part : List ℕ → ℕ → List ℕ

@@ -1,11 +1,9 @@
 -- How a type is written.
-use mathlib.Core.Path.{_≡_}
 use mathlib.Core.Bool.{Bool, _||_}
 use mathlib.Core.List.{List, [], _∷_}
-use Prim.Native.Nat.{ℕ, _%_, _≤_}
+use Prim.Native.Nat.{ℕ}
 use lib.Dec.{eqb}
-use lib.ListN.{length, drop, getD}
-use Rattle.type_numbers.specs.Limit as limit
+use lib.ListN.{drop}
 use Rattle.type_numbers.specs.Kind as kind
 
 -- "A layer is three u64 words: kind, name, number."
@@ -23,11 +21,6 @@ layers (k ∷ n ∷ m ∷ ws) = layer k n m ∷ layers ws
 layers (k ∷ n ∷ []) = []
 layers (k ∷ []) = []
 layers [] = []
-
--- Words that are whole layers, "1 to 16 layers" at most.
-pub record Whole (ws : List ℕ) : Type 0 where
-  pub whole : length ws % 3 ≡ 0
-  pub few : length ws ≤ limit.typeWords
 
 -- The words of a run of layers.
 unfoldable pub spelled : List Layer → List ℕ
@@ -61,7 +54,3 @@ inside (x ∷ a) = a
 -- "The inner type is the caller's own words from the next layer on".
 abbrev pub innerWords : List ℕ → List ℕ
 innerWords ws = drop 3 ws
-
--- The outer layer of a type's words, as the code reads it.
-abbrev pub head : List ℕ → Layer
-head ws = layer (getD ws 0 0) (getD ws 1 0) (getD ws 2 0)

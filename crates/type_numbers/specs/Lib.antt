@@ -6,4 +6,4 @@ pub mod State
 pub mod Effect
 pub mod Refusal
 pub mod Limit
-pub mod Words
+pub mod AsCoded

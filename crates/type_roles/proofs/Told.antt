@@ -6,7 +6,7 @@ use mathlib.Core.List.{List}
 use Prim.Native.Nat.{ℕ}
 use Rattle.type_layers.specs.Layers.{Layer, outer}
 use Rattle.type_layers.specs.Answer.{Answer, isGiven}
-use Rattle.type_size_and_depth.specs.Answer.{ofSize}
+use Rattle.type_size_and_depth.specs.AsCoded.{ofSize}
 use Rattle.type_size_and_depth.specs.Known.{knownSize}
 use Rattle.type_size_and_depth.specs.declared.answers.Size.{Size}
 use Rattle.type_wellformed.specs.WellFormed.{wellFormed}

@@ -1,7 +1,7 @@
 -- The definitions of the answers tell each enum's cases and values apart.
 -- Assumes nothing.
 use mathlib.Core.Path.{_≡_}
-use Rattle.type_size_and_depth.specs.Answer.{ofSize, ofCount}
+use Rattle.type_size_and_depth.specs.AsCoded.{ofSize, ofCount}
 use Rattle.type_size_and_depth.specs.declared.answers.Size.{Size}
 use Rattle.type_size_and_depth.specs.declared.answers.Size.the-variants as size
 use Rattle.type_size_and_depth.specs.declared.answers.Count.{Count}

@@ -3,7 +3,7 @@
 use mathlib.Core.Path.{_≡_, refl}
 use mathlib.Core.List.{_++_}
 use Rattle.type_numbers.specs.Kind as kind
-use Rattle.type_numbers.specs.Words.{words}
+use Rattle.type_numbers.specs.AsCoded.{words}
 use Rattle.type_layers.specs.Layers.{layers}
 use Rattle.type_layers.specs.Answer.{given}
 use Rattle.type_checks.specs.Check.{checkOf, goodLayer, badLayer, misplaced}

@@ -1,3 +1,3 @@
-pub mod Answer
 pub mod Known
 pub mod Depth
+pub mod AsCoded

@@ -4,7 +4,7 @@ use type_layers::Checked;
 use type_numbers::Kind;
 ghost use mathlib.Core.Path.{_≡_};
 ghost use Rattle.type_layers.specs.Layers.{layers};
-ghost use Rattle.type_size_and_depth.specs.Answer.{ofSize};
+ghost use Rattle.type_size_and_depth.specs.AsCoded.{ofSize};
 ghost use Rattle.type_size_and_depth.specs.Known.{knownOf, knownSize, knownSizeAnswer};
 
 // The known size of a type by the kind and the number of its outer layer.

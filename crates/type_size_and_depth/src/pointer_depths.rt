@@ -4,7 +4,7 @@ use type_layers::Checked;
 use type_numbers::Kind;
 ghost use mathlib.Core.Path.{_≡_};
 ghost use Rattle.type_layers.specs.Layers.{layers};
-ghost use Rattle.type_size_and_depth.specs.Answer.{ofCount};
+ghost use Rattle.type_size_and_depth.specs.AsCoded.{ofCount};
 ghost use Rattle.type_size_and_depth.specs.Depth.{pointerDepth, pointerDepthAnswer};
 
 // The pointer depth; of no layer 0.

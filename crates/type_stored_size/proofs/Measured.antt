@@ -15,7 +15,7 @@ use Rattle.type_numbers.specs.Kind as kind
 use Rattle.type_layers.specs.Layers.{layers}
 use Rattle.type_layers.specs.Answer.{Answer, given, nothing, refused}
 use Rattle.type_layers.proofs.Words.{none, more, rest}
-use Rattle.type_size_and_depth.specs.Answer.{ofSize}
+use Rattle.type_size_and_depth.specs.AsCoded.{ofSize}
 use Rattle.type_size_and_depth.specs.Known.{knownSize}
 use Rattle.type_stored_size.specs.StoredSize.{product, times, storedSize}
 use Rattle.type_size_and_depth.specs.declared.answers.Size.{Size}

@@ -6,7 +6,7 @@ use type_size_and_depth::Size;
 use type_size_and_depth::known_size;
 ghost use mathlib.Core.Path.{_≡_};
 ghost use Rattle.type_layers.specs.Layers.{layers};
-ghost use Rattle.type_size_and_depth.specs.Answer.{ofSize};
+ghost use Rattle.type_size_and_depth.specs.AsCoded.{ofSize};
 ghost use Rattle.type_stored_size.specs.StoredSize.{width, product, times, storedSize, storedSizeAnswer};
 
 // The bytes of a pointer.

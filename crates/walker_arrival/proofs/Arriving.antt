@@ -14,7 +14,7 @@ use Rattle.type_layers.proofs.Words.{inner-layers}
 use Rattle.write_type.specs.Outcome.{answerIn, bufferIn}
 use Rattle.write_answer.specs.Flat.{flat}
 use Rattle.write_answer.specs.declared.answer.Answer.{Answer}
-use Rattle.walker_step.specs.StepMove.{seen}
+use Rattle.walker_step.specs.AsCoded.{seen}
 use Rattle.walker_arrival.specs.Arrived.{addressed}
 
 -- what the walker tells, and what it leaves

@@ -13,7 +13,7 @@ ghost use Rattle.type_layers.specs.Layers.{layer, spelled};
 ghost use Rattle.type_layers.specs.Answer.{given};
 ghost use Rattle.write_type.specs.Outcome.{answerIn, bufferIn};
 ghost use Rattle.write_answer.specs.Flat.{flat};
-ghost use Rattle.walker_step.specs.StepMove.{seen};
+ghost use Rattle.walker_step.specs.AsCoded.{seen};
 ghost use Rattle.walker_arrival.specs.Arrived.{addressed};
 
 // The words that stay: those behind the outer layer, where that counts as Arraylike.

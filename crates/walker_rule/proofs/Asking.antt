@@ -6,8 +6,8 @@ use Prim.Native.Nat.{ℕ}
 use lib.ListN.{take}
 use borrow.Author.Tests.{eq-eqb, ne-eqb}
 use Rattle.type_layers.proofs.Decide.{yes}
-use Rattle.symbol_members.specs.Members.{memberIn}
-use Rattle.walker_rule.specs.Asked.{askedIn}
+use Rattle.symbol_members.specs.AsCoded.{memberIn}
+use Rattle.walker_rule.specs.AsCoded.{askedIn}
 
 module _ (ws store : List ℕ) (n s id : ℕ) where
   pub is-asked : (r : List ℕ) → s ≡ 1 → r ≡ memberIn ws n store id → r ≡ askedIn ws n store s id

@@ -1,2 +1,2 @@
 pub mod Walker
-pub mod Asked
+pub mod AsCoded

@@ -8,15 +8,16 @@ use native.Mathlib.Omega.{arith}
 use lib.Dec.{eqb, leb}
 use lib.ListN.{length, drop, getD, drop-of-length-le}
 use borrow.Author.Tests.{eq-eqb}
-use Rattle.type_layers.specs.Layers.{Layer, layers, outer, Whole}
+use Rattle.type_layers.specs.Layers.{Layer, layers, outer}
+use Rattle.type_layers.specs.AsCoded.{Whole}
 use Rattle.type_layers.specs.Answer as paper
 use Rattle.type_layers.specs.Answer.{refused, ofChecked, next}
 use Rattle.type_checks.specs.Check.{checkOf}
 use Rattle.type_checks.proofs.Accepted.{accepted-whole}
 use Rattle.type_layers.specs.declared.answers.Checked.{Checked}
 use Rattle.type_layers.specs.declared.answers.Checked.the-variants.{Good, Refused}
-use Rattle.symbol_columns.specs.Rows.{readFrom}
-use Rattle.symbol_lent.specs.Gathered.{gathered}
+use Rattle.symbol_columns.specs.AsCoded.{readFrom}
+use Rattle.symbol_lent.specs.AsCoded.{gathered}
 use Rattle.symbol_order.specs.Order.{inOrder}
 use Rattle.symbol_columns.specs.declared.symbol.Symbol.{Symbol}
 use Rattle.symbol_columns.proofs.Reading.{length-read}
@@ -29,9 +30,10 @@ use Rattle.plan_steps.proofs.Words.{steps-none}
 use Rattle.plan_steps.proofs.Passing.{here, at-word, steps-whole}
 use Rattle.symbol_members.specs.Member.{Stored}
 use Rattle.walker_rule.specs.Walker.{at}
-use Rattle.symbol_members.specs.Members.{memberIn, ofLayers, members}
-use Rattle.walker_rule.specs.Asked.{askedIn}
-use Rattle.walker_step.specs.StepMove.{moveOf, seen, onward, desliced, sticks, moved, Current}
+use Rattle.symbol_members.specs.Members.{ofLayers, members}
+use Rattle.symbol_members.specs.AsCoded.{memberIn}
+use Rattle.walker_rule.specs.AsCoded.{askedIn}
+use Rattle.walker_step.specs.AsCoded.{moveOf, seen, onward, desliced, sticks, moved, Current}
 use Rattle.walker_step.specs.declared.step_move.Move.{Move}
 use Rattle.symbol_members.proofs.Storing.{at-most, member-whole}
 use Rattle.walker_step.proofs.Acting.{acts, moves-on}

@@ -20,10 +20,10 @@ ghost use mathlib.Core.Path.{_≡_};
 ghost use mathlib.Core.Bool.{true};
 ghost use Prim.Native.Nat.{_%_};
 ghost use lib.ListN.{length};
-ghost use Rattle.symbol_columns.specs.Rows.{readFrom};
+ghost use Rattle.symbol_columns.specs.AsCoded.{readFrom};
 ghost use Rattle.symbol_order.specs.Order.{inOrder};
 ghost use Rattle.write_answer.specs.Flat.{flat};
-ghost use Rattle.type_layers.specs.Layers.{Whole};
+ghost use Rattle.type_layers.specs.AsCoded.{Whole};
 ghost use Rattle.write_type.specs.Outcome.{answerIn, bufferIn};
 ghost use Rattle.walker_run.specs.Walked as rules;
 

@@ -8,7 +8,8 @@ use lib.Dec.{eqb, leb}
 use lib.ListN.{length, drop}
 use borrow.Author.Tests.{eq-eqb, ne-eqb, eqb-true, leb-true, leb-false}
 use Rattle.type_numbers.specs.Kind as kind
-use Rattle.type_layers.specs.Layers.{Layer, layers, outer, inside, innerWords, isArray, isReference, Whole}
+use Rattle.type_layers.specs.Layers.{Layer, layers, outer, inside, innerWords, isArray, isReference}
+use Rattle.type_layers.specs.AsCoded.{Whole}
 use Rattle.type_layers.proofs.Words.{inner-layers, inner-whole, none, more}
 use Rattle.type_layers.proofs.Decide.{yes, no}
 use Rattle.type_numbers.specs.Mark as of-mark
@@ -16,7 +17,7 @@ use Rattle.plan_steps.specs.Steps.{Step}
 use Rattle.symbol_members.specs.Member.{Stored}
 use Rattle.walker_rule.specs.Walker.{Where, at, stuck, toStored, element, member, act}
 use Rattle.symbol_members.specs.Members.{ofLayers}
-use Rattle.walker_step.specs.StepMove.{onElement, onMember, onAutodeslice, takesOff, moveOf, seen, onward, desliced, sticks, moved, Current}
+use Rattle.walker_step.specs.AsCoded.{onElement, onMember, onAutodeslice, takesOff, moveOf, seen, onward, desliced, sticks, moved, Current}
 use Rattle.walker_step.specs.declared.step_move.Move.{Move}
 use Rattle.walker_step.specs.declared.step_move.Move.the-variants.{Stuck, Inside, TwoInside, Deslice, Member}
 

@@ -5,7 +5,7 @@ use type_numbers::Mark;
 use type_numbers::StepKind;
 ghost use mathlib.Core.Path.{_≡_};
 ghost use Rattle.type_layers.specs.Layers as layers;
-ghost use Rattle.walker_step.specs.StepMove as rules;
+ghost use Rattle.walker_step.specs.AsCoded as rules;
 
 // What a step does.
 pub enum Move {

@@ -2,7 +2,7 @@ use borrow.Author.Needs.{needs}
 use Rattle.plan_rounds.proofs.round.push.Statement.{statement}
 use Rattle.plan_rounds.proofs.round.push.Tie as tie
 use denote.Ref.{now}
-use Rattle.plan_steps.proofs.Words.{stepAt}
+use Rattle.plan_steps.specs.AsCoded.{stepAt}
 use Rattle.plan_rounds.proofs.Adding.{none, auto, element, sliced, member}
 
 pub push-spec : {M : Type 1} → statement M

@@ -2,7 +2,7 @@ use mathlib.Core.Logic.{⊎-elim, inl, inr}
 use Prim.Native.Nat.{_-_}
 use borrow.Author.Needs.{needs}
 use denote.Ref.{now}
-use Rattle.symbol_members.specs.Members.{memberIn}
+use Rattle.symbol_members.specs.AsCoded.{memberIn}
 use Rattle.plan_rounds.proofs.Reading.{none-fits, auto-fits, element-fits, desliced-fits, no-member, ill-formed, member-fits}
 use Rattle.plan_rounds.proofs.Looping.{Along, along-start, one-at-most, full, here-whole, push-room, few-steps, end-room, taken-fits, told-end, steps-end, type-end, told-refusal, steps-stay, type-stays, along-turn}
 use Rattle.plan_rounds.proofs.rounds.plan_in_rounds.Statement.{statement}

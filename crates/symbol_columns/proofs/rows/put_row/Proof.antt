@@ -1,6 +1,6 @@
 use borrow.Author.Needs.{needs}
 use borrow.Author.Tests.{lt-ltb, le-ltb}
-use Rattle.symbol_columns.specs.Rows.{putRow}
+use Rattle.symbol_columns.specs.AsCoded.{putRow}
 use Rattle.symbol_columns.proofs.rows.put_row.Statement.{statement}
 use Rattle.symbol_columns.proofs.rows.put_row.Tie as tie
 

@@ -1,5 +1,5 @@
 use borrow.Author.Needs.{needs}
-use Rattle.symbol_columns.specs.Rows.{rowAt}
+use Rattle.symbol_columns.specs.AsCoded.{rowAt}
 use Rattle.symbol_columns.proofs.Reading.{row-in, row-past}
 use Rattle.symbol_columns.proofs.rows.row.Statement.{statement}
 use Rattle.symbol_columns.proofs.rows.row.Tie as tie

@@ -54,8 +54,9 @@ use denote.Triple.Walked.{says, Stays, stay-none-slice, stay-ref, walkOf, goes-n
 use denote.Exit.{yes}
 use denote.Signature.{plain}
 use denote.Signature.Array.{arrayOf}
-use Rattle.symbol_columns.specs.Rows.{vacant, putRow}
-use Rattle.symbol_lent.specs.Gathered.{rowsInto, gatheredInto}
+use Rattle.symbol_columns.specs.Record.{vacant}
+use Rattle.symbol_columns.specs.AsCoded.{putRow}
+use Rattle.symbol_lent.specs.AsCoded.{rowsInto, gatheredInto}
 use Rattle.symbol_columns.specs.declared.symbol.Symbol.{Symbol}
 use Rattle.symbol_lent.proofs.Gathering.{rows-start, rows-next, gather-many, gather-few}
 use Rattle.symbol_lent.proofs.Guard.{holds, fails, by-test, guarded}

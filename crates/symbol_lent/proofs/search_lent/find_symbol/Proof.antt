@@ -48,7 +48,7 @@ use denote.Triple.Walked.{says, Stays, stay-none, stay-none-slice, walkOf, goes-
 use denote.Exit.{yes}
 use denote.Signature.{plain}
 use Rattle.symbol_columns.specs.declared.symbol.Symbol.{Symbol}
-use Rattle.symbol_columns.specs.Rows.{vacant}
+use Rattle.symbol_columns.specs.Record.{vacant}
 use Rattle.symbol_columns.proofs.symbol.Symbol as R
 use Rattle.symbol_columns.proofs.symbol.Symbol.Laws as R′
 use Rattle.symbol_search.specs.Search.{has, slotFor}

@@ -2,7 +2,7 @@ use mathlib.Core.Path.{_≡_}
 use Prim.Native.Nat.{_≤_, _-_}
 use borrow.Author.Needs.{needs}
 use mathlib.Core.Bool.{_||_}
-use Rattle.symbol_columns.specs.Rows.{readFrom}
+use Rattle.symbol_columns.specs.AsCoded.{readFrom}
 use Rattle.symbol_columns.proofs.Reading.{from}
 use Rattle.symbol_order.specs.Order.{hasId}
 use Rattle.symbol_order.proofs.Onward.{id-start, id-more, id-end}

@@ -3,10 +3,10 @@ use Prim.Native.Nat.{_≤_, _-_, _*_}
 use borrow.Author.Needs.{needs}
 use borrow.Author.Tests.{not-true, not-false}
 use lib.ListN.{length, drop}
-use Rattle.symbol_columns.specs.Rows.{readFrom}
+use Rattle.symbol_columns.specs.AsCoded.{readFrom}
 use Rattle.symbol_columns.proofs.Reading.{from}
 use Rattle.symbol_order.specs.Order.{inOrder}
-use Rattle.symbol_order.specs.Standing.{Noted}
+use Rattle.symbol_order.specs.AsCoded.{Noted}
 use Rattle.symbol_order.proofs.Onward.{onward, too-many, other-store, start, ends, breaks, goes-on, slot, noted-start, still-full, noted-more}
 use Rattle.symbol_order.proofs.order.in_order.Statement.{statement}
 use Rattle.symbol_order.proofs.order.in_order.Tie as tie

@@ -1,8 +1,8 @@
 use borrow.Author.Needs.{needs}
 use borrow.Author.Tests.{le-leb, lt-leb, eq-eqb, ne-eqb}
 use Rattle.type_layers.proofs.Decide.{yes, no, yes-by, no-by}
-use Rattle.symbol_columns.specs.Rows.{rowAt}
-use Rattle.symbol_order.specs.Standing.{stands}
+use Rattle.symbol_columns.specs.AsCoded.{rowAt}
+use Rattle.symbol_order.specs.AsCoded.{stands}
 use Rattle.symbol_order.proofs.order.stands_after.Statement.{statement}
 use Rattle.symbol_order.proofs.order.stands_after.Tie as tie
 

@@ -49,8 +49,9 @@ use denote.Triple.Walked.{says, Stays, stay-slice, stay-none, stay-none-slice, g
 use denote.Exit.{yes}
 use denote.Signature.{plain}
 use Rattle.symbol_columns.specs.declared.symbol.Symbol.{Symbol}
-use Rattle.symbol_columns.specs.Rows.{vacant, readFrom}
-use Rattle.symbol_lent.specs.Gathered.{gathered}
+use Rattle.symbol_columns.specs.Record.{vacant}
+use Rattle.symbol_columns.specs.AsCoded.{readFrom}
+use Rattle.symbol_lent.specs.AsCoded.{gathered}
 use Rattle.symbol_lent.proofs.Guard.{holds, fails, by-test, guarded}
 use Rattle.symbol_columns.proofs.symbol.Symbol as R
 use Rattle.symbol_columns.proofs.symbol.Symbol.Laws as R′
@@ -61,7 +62,8 @@ use Rattle.symbol_lent.proofs.gather.Met as gather-thm
 use Rattle.write_answer.specs.declared.answer.Answer.{Answer}
 use Rattle.write_answer.proofs.answer.Answer as B
 use Rattle.write_answer.proofs.answer.Answer.Laws as B′
-use Rattle.symbol_change.specs.Change.{outcome, changeOf, storeOf}
+use Rattle.symbol_change.specs.Change.{outcome}
+use Rattle.symbol_change.specs.AsCoded.{changeOf, storeOf}
 use Rattle.symbol_operations.specs.declared.operation.Operation.{Operation}
 use Rattle.symbol_operations.specs.Operations.{ofOperation}
 use Rattle.symbol_change.specs.declared.change.Change.{Change}

@@ -1,4 +1,4 @@
-use Rattle.walker_step.specs.StepMove.{onward}
+use Rattle.walker_step.specs.AsCoded.{onward}
 use Rattle.walker_step.proofs.Acting.{leads, leads-in}
 use borrow.Author.Needs.{needs}
 use Rattle.walker_step.proofs.step_move.go.Statement.{statement}

@@ -1,4 +1,4 @@
-use Rattle.walker_step.specs.StepMove.{desliced}
+use Rattle.walker_step.specs.AsCoded.{desliced}
 use Rattle.walker_step.proofs.Acting.{turns}
 use borrow.Author.Needs.{needs}
 use Rattle.walker_step.proofs.step_move.is_desliced.Statement.{statement}

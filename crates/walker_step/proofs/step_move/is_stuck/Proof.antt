@@ -1,4 +1,4 @@
-use Rattle.walker_step.specs.StepMove.{sticks}
+use Rattle.walker_step.specs.AsCoded.{sticks}
 use Rattle.walker_step.proofs.Acting.{stays-stuck}
 use borrow.Author.Needs.{needs}
 use Rattle.walker_step.proofs.step_move.is_stuck.Statement.{statement}

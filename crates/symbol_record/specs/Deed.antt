@@ -8,7 +8,6 @@ use Rattle.write_words.specs.Written.{written}
 use Rattle.symbol_columns.specs.declared.symbol.Symbol.{Symbol}
 use Rattle.write_answer.specs.declared.answer.Answer.{Answer}
 use Rattle.write_answer.specs.Flat.{accepted}
-use Rattle.symbol_update.specs.declared.update_record.Updated.{Updated}
 use Rattle.symbol_update.specs.Update.{typed, updated, wordsAfter}
 use Rattle.symbol_operations.specs.Act as act
 use Rattle.symbol_operations.specs.Act.{Act}
@@ -46,7 +45,3 @@ filled a id authority place mark offered = cond (offersType a) (typed id authori
 
 abbrev pub filledWords : Act → List ℕ → List ℕ → List ℕ
 filledWords a offered ws = cond (offersType a) (written offered ws) ws
-
--- As the code hands it back: the record and the answer.
-abbrev pub seen : Deed → Updated
-seen d = record { symbol = d .symbol; answer = d .answer }

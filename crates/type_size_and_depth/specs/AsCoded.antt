@@ -1,4 +1,4 @@
--- "When an answer is an enum, a definition gives this paper's number and values for each of its cases, and the promises use that definition."
+-- No rule, but what contracts of the code need: what the code's answers are in the paper's terms.
 use Prim.Native.Nat.{ℕ}
 use Rattle.type_layers.specs.Answer.{Answer, given, nothing, refused}
 use Rattle.type_size_and_depth.specs.declared.answers.Size.{Size}

@@ -1,4 +1,4 @@
--- What one pass over a table asks of a record, by those before it. `Onward.one-pass` shows that it asks for the order.
+-- No rule, but what contracts of the code need: what one pass over a table asks of a record, by those before it (`Onward.one-pass` shows that it asks for the order).
 use mathlib.Core.Path.{_≡_}
 use mathlib.Core.Bool.{Bool, true, false, cond}
 use mathlib.Core.List.{List}
@@ -6,7 +6,7 @@ use Prim.Native.Nat.{ℕ, _%_, _<_}
 use lib.Dec.{leb}
 use lib.ListN.{getD}
 use Rattle.symbol_columns.specs.declared.symbol.Symbol.{Symbol}
-use Rattle.symbol_columns.specs.Rows.{free}
+use Rattle.symbol_columns.specs.Record.{free}
 use Rattle.symbol_order.specs.Order.{hasId, passes}
 
 -- A free record can stand anywhere; a taken one not after a free one (`after`), of a known state, under an id that none

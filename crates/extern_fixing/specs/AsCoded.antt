@@ -1,4 +1,4 @@
--- What the functions inside ask of the words that they are handed.
+-- No rule, but what contracts of the code need: what the functions inside ask of the words that they are handed.
 use mathlib.Core.Path.{_≡_}
 use mathlib.Core.List.{List}
 use Prim.Native.Nat.{ℕ, _+_, _%_, _≤_}

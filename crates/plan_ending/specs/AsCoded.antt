@@ -1,4 +1,4 @@
--- What a settling adds to the rounds, in numbers.
+-- No rule, but what contracts of the code need: what a settling adds to the rounds, in numbers.
 use mathlib.Core.Bool.{Bool, true, false}
 use mathlib.Core.List.{List}
 use Prim.Native.Nat.{ℕ, _-_}

@@ -1,4 +1,4 @@
--- Bytes put into a lent text, and a number in decimal.
+-- No rule, but what contracts of the code need: bytes put into a lent text, and a number in decimal.
 use mathlib.Core.Bool.{Bool, cond}
 use mathlib.Core.List.{List, [], _∷_, _++_}
 use Prim.Native.Nat.{ℕ, _+_, _/_, _%_}

@@ -1,4 +1,4 @@
--- "When an answer is an enum, a definition gives this paper's number and values for each of its cases, and the promises use that definition."
+-- No rule, but what contracts of the code need: what the code's answers are in the paper's terms.
 use Rattle.type_layers.specs.Answer.{Answer, given, refused}
 use Rattle.type_bounds.specs.declared.bound.Halves.{Halves}
 use Rattle.type_bounds.specs.declared.bound.Bound.{Bound}

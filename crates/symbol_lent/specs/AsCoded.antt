@@ -1,4 +1,4 @@
--- A table in columns.
+-- No rule, but what contracts of the code need: a table in columns.
 use mathlib.Core.Bool.{cond}
 use mathlib.Core.List.{List}
 use Prim.Native.Nat.{ℕ, zero, suc}
@@ -6,8 +6,8 @@ use lib.Dec.{ltb}
 use lib.ListN.{length, getD, replicate}
 use Rattle.type_numbers.specs.Limit as limit
 use Rattle.symbol_columns.specs.declared.symbol.Symbol.{Symbol}
-use Rattle.symbol_columns.specs.Rows.{vacant, putRow}
-use Rattle.symbol_columns.specs.Column as column
+use Rattle.symbol_columns.specs.Record.{vacant}
+use Rattle.symbol_columns.specs.AsCoded.{putRow, columnWords}
 
 -- The first k records in their columns, over the words that stand there.
 unfoldable pub rowsInto : List ℕ → List Symbol → ℕ → List ℕ
@@ -20,4 +20,4 @@ gatheredInto ws table = cond (ltb limit.records (length table)) ws (rowsInto ws 
 
 -- The same over zeros.
 abbrev pub gathered : List Symbol → List ℕ
-gathered table = gatheredInto (replicate column.words 0) table
+gathered table = gatheredInto (replicate columnWords 0) table

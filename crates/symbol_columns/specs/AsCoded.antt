@@ -1,31 +1,41 @@
--- A table's records in six columns of 128 words: record i's words stand at i, i + 128, .., i + 640.
-use mathlib.Core.Bool.{Bool, false, cond}
-use mathlib.Core.List.{List, [], _∷_}
+-- No rule, but what contracts of the code need: a table's records in six columns of words.
 use Prim.Native.Nat.{ℕ, zero, suc, _+_}
+use mathlib.Core.Bool.{Bool, cond}
+use mathlib.Core.List.{List, [], _∷_}
 use lib.Dec.{eqb, ltb}
 use lib.ListN.{getD, set}
 use Rattle.type_numbers.specs.Limit as limit
-use Rattle.type_numbers.specs.State as of-state
 use Rattle.symbol_columns.specs.declared.symbol.Symbol.{Symbol}
-use Rattle.symbol_columns.specs.Column as column
+use Rattle.symbol_columns.specs.Record.{vacant}
 
--- "state (0 free, 1 typed, 2 poisoned)"
-abbrev pub free : Symbol → Bool
-free s = eqb (s .state) of-state.free
+-- Where each column of a table starts; the ids stand first. Each has room for as many records as a table may have; the sums
+-- are written out, since the facts that the kit makes have them so.
+abbrev pub authorities : ℕ
+authorities = 128
 
-abbrev pub typed : Symbol → Bool
-typed s = eqb (s .state) of-state.typed
+abbrev pub places : ℕ
+places = 256
 
--- A free record: what a row holds where no record was put.
-abbrev pub vacant : Symbol
-vacant = record { id = 0; authority = false; place = 0; state = of-state.free; layers = 0; mark = 0 }
+abbrev pub states : ℕ
+states = 384
 
+abbrev pub layerCounts : ℕ
+layerCounts = 512
+
+abbrev pub marks : ℕ
+marks = 640
+
+-- All six.
+abbrev pub columnWords : ℕ
+columnWords = 768
+
+-- A record's row in the columns: written there, and read.
 abbrev pub bit : Bool → ℕ
 bit b = cond b 1 0
 
 abbrev pub sixSet : List ℕ → ℕ → Symbol → List ℕ
 sixSet ws i s =
-    set (set (set (set (set (set ws i (s .id)) (i + column.authority) (bit (s .authority))) (i + column.place) (s .place)) (i + column.state) (s .state)) (i + column.layers) (s .layers)) (i + column.mark) (s .mark)
+    set (set (set (set (set (set ws i (s .id)) (i + authorities) (bit (s .authority))) (i + places) (s .place)) (i + states) (s .state)) (i + layerCounts) (s .layers)) (i + marks) (s .mark)
 
 unfoldable pub putRow : List ℕ → ℕ → Symbol → List ℕ
 putRow ws i s = cond (ltb i limit.records) (sixSet ws i s) ws
@@ -35,11 +45,11 @@ unfoldable pub rowAt : List ℕ → ℕ → Symbol
 rowAt ws i =
     record {
       id = getD ws i 0;
-      authority = eqb (getD ws (i + column.authority) 0) 1;
-      place = getD ws (i + column.place) 0;
-      state = getD ws (i + column.state) 0;
-      layers = getD ws (i + column.layers) 0;
-      mark = getD ws (i + column.mark) 0;
+      authority = eqb (getD ws (i + authorities) 0) 1;
+      place = getD ws (i + places) 0;
+      state = getD ws (i + states) 0;
+      layers = getD ws (i + layerCounts) 0;
+      mark = getD ws (i + marks) 0;
     }
 
 unfoldable pub readFrom : List ℕ → ℕ → ℕ → List Symbol

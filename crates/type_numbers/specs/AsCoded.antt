@@ -1,4 +1,4 @@
--- How a layer is written.
+-- No rule, but what contracts of the code need: how the words of one layer are written.
 use mathlib.Core.List.{List, [], _∷_}
 use Prim.Native.Nat.{ℕ}
 

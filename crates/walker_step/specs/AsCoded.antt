@@ -1,4 +1,4 @@
--- One step of the walker on numbers and words, as the code takes it.
+-- No rule, but what contracts of the code need: one step of the walker on numbers and words.
 use mathlib.Core.Path.{_≡_}
 use mathlib.Core.Bool.{Bool, true, false, cond, _&&_, _||_}
 use mathlib.Core.List.{List, _∷_}
@@ -6,7 +6,8 @@ use Prim.Native.Nat.{ℕ, _≤_}
 use lib.Dec.{eqb}
 use lib.ListN.{length}
 use Rattle.type_numbers.specs.Kind as kind
-use Rattle.type_layers.specs.Layers.{Layer, layer, layers, inside, innerWords, isArray, isReference, Whole}
+use Rattle.type_layers.specs.Layers.{Layer, layer, layers, inside, innerWords, isArray, isReference}
+use Rattle.type_layers.specs.AsCoded.{Whole}
 use Rattle.type_numbers.specs.StepKind as of-step
 use Rattle.type_numbers.specs.Mark as of-mark
 use Rattle.walker_rule.specs.Walker.{Where, at, stuck}
