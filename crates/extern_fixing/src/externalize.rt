@@ -21,7 +21,7 @@ ghost use Rattle.type_layers.specs.AsCoded.{Whole};
 ghost use Rattle.type_layers.specs.Answer.{ofChecked};
 ghost use Rattle.extern_fixing.specs.Fixing as fixing;
 ghost use Rattle.extern_fixing.specs.AsCoded.{Room};
-ghost use Rattle.write_type.specs.Outcome.{told, over, answerIn, bufferIn};
+ghost use Rattle.write_type.specs.Outcome.{told, over, Writes};
 
 fn is_kept(k: u64) -> bool
     ensures { λ r. ⌜ r ≡ fixing.kept k ⌝ }
@@ -91,8 +91,8 @@ fn externalize_type(t: &[u64], place: u64, made: &mut [u64]) -> Checked
 // The type externalized, inside of the layers in front.
 fn externalize_part(front: &[u64], t: &[u64], place: u64, out: &mut [u64]) -> Checked
     requires { ⌜ Whole (now t) × (place ≤ 1) ⌝ }
-    ensures answer { λ r. ⌜ ofChecked r ≡ answerIn (now (out .entry)) (fixing.under (layers (now (front .entry))) (fixing.externalize place (layers (now (t .entry))))) ⌝ }
-    ensures buffer { λ _. ⌜ now (out .exit) ≡ bufferIn (now (out .entry)) (fixing.under (layers (now (front .entry))) (fixing.externalize place (layers (now (t .entry))))) ⌝ }
+    ensures { λ r. ⌜ Writes (fixing.under (layers (now (front .entry))) (fixing.externalize place (layers (now (t .entry)))))
+        r (now (out .entry)) (now (out .exit)) ⌝ }
 {
     if !is_wellformed(t) {
         return Checked::Refused {
@@ -117,8 +117,8 @@ fn view_of_endless_array() -> [u64; 6]
 // An extern type.
 pub(crate) fn fix_external(t: &[u64], out: &mut [u64]) -> Checked
     requires { ⌜ Whole (now t) ⌝ }
-    ensures answer { λ r. ⌜ ofChecked r ≡ answerIn (now (out .entry)) (fixing.fixedExtern (layers (now (t .entry)))) ⌝ }
-    ensures buffer { λ _. ⌜ now (out .exit) ≡ bufferIn (now (out .entry)) (fixing.fixedExtern (layers (now (t .entry)))) ⌝ }
+    ensures { λ r. ⌜ Writes (fixing.fixedExtern (layers (now (t .entry))))
+        r (now (out .entry)) (now (out .exit)) ⌝ }
 {
     if outer(t) == Kind::ARRAYLIKE {
         let front = view_of_endless_array();

@@ -9,13 +9,13 @@ ghost use Rattle.type_layers.specs.Layers.{layers};
 ghost use Rattle.type_layers.specs.AsCoded.{Whole};
 ghost use Rattle.type_layers.specs.Answer.{ofChecked};
 ghost use Rattle.extern_fixing.specs.Fixing as fixing;
-ghost use Rattle.write_type.specs.Outcome.{answerIn, bufferIn};
+ghost use Rattle.write_type.specs.Outcome.{Writes};
 ghost use Rattle.extern_fixing.specs.Answers.{fixedAnswer, fixedBuffer};
 
 fn fix_checked(t: &[u64], external: bool, context: u64, out: &mut [u64]) -> Checked
     requires { ⌜ Whole (now t) ⌝ }
-    ensures answer { λ r. ⌜ ofChecked r ≡ answerIn (now (out .entry)) (fixing.fixed external context (layers (now (t .entry)))) ⌝ }
-    ensures buffer { λ _. ⌜ now (out .exit) ≡ bufferIn (now (out .entry)) (fixing.fixed external context (layers (now (t .entry)))) ⌝ }
+    ensures { λ r. ⌜ Writes (fixing.fixed external context (layers (now (t .entry))))
+        r (now (out .entry)) (now (out .exit)) ⌝ }
 {
     if context > Context::MEMBER {
         return Checked::Refused {

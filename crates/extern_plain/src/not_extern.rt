@@ -10,8 +10,8 @@ ghost use mathlib.Core.Bool.{_||_};
 ghost use lib.Dec.{eqb};
 ghost use Rattle.type_numbers.specs.Context as of-context;
 ghost use Rattle.type_layers.specs.Layers.{layers};
-ghost use Rattle.type_layers.specs.Answer.{given, ofChecked};
-ghost use Rattle.write_type.specs.Outcome.{answerIn, bufferIn};
+ghost use Rattle.type_layers.specs.Answer.{given};
+ghost use Rattle.write_type.specs.Outcome.{Writes};
 ghost use Rattle.extern_plain.specs.Plain as fixed;
 
 fn is_viewed(context: u64) -> bool
@@ -22,8 +22,8 @@ fn is_viewed(context: u64) -> bool
 
 // A type that is not extern.
 pub fn fix_plain(t: &[u64], context: u64, out: &mut [u64]) -> Checked
-    ensures answer { λ r. ⌜ ofChecked r ≡ answerIn (now (out .entry)) (given (fixed.fixedPlain context (layers (now (t .entry))))) ⌝ }
-    ensures buffer { λ _. ⌜ now (out .exit) ≡ bufferIn (now (out .entry)) (given (fixed.fixedPlain context (layers (now (t .entry))))) ⌝ }
+    ensures { λ r. ⌜ Writes (given (fixed.fixedPlain context (layers (now (t .entry)))))
+        r (now (out .entry)) (now (out .exit)) ⌝ }
 {
     let k = outer(t);
     if k == Kind::ARRAYLIKE {

@@ -21,13 +21,9 @@ use Rattle.plan_settling.specs.Settling.{pointer}
 use Rattle.plan_ending.specs.declared.ending.Ending.{Ending}
 use Rattle.plan_report.specs.declared.report.Report.{Report}
 use Rattle.plan_report.specs.Plan.{Plan, planned}
-use Rattle.plan_report.specs.Report.{delivered, notGiven, told, stepsOver, typeOver}
+use Rattle.plan_report.specs.Report.{delivered, notGiven, told, stepsOver, typeOver, Hands}
 
--- the report r, and the outputs s and t that became s′ and t′, are those of an outcome
-abbrev pub Told : Answer Plan → Report → List ℕ → List ℕ → List ℕ → List ℕ → Type 0
-Told d r s s′ t t′ = (r ≡ told d) × ((s′ ≡ stepsOver d s) × (t′ ≡ typeOver d t))
-
-pub refuses : (d : Answer Plan) (n p : ℕ) (s t : List ℕ) → d ≡ refused n p → Told d (notGiven n p) s s t t
+pub refuses : (d : Answer Plan) (n p : ℕ) (s t : List ℕ) → d ≡ refused n p → Hands d (notGiven n p) s s t t
 unfolding told stepsOver typeOver
 refuses d n p s t e = rw e (refl, (refl, refl))
 
@@ -96,7 +92,7 @@ module _ (b : List ℕ) (m taken : ℕ) (e : Ending) (body s t : List ℕ) (room
   type-count : length (spelled type) ≡ 3 * e .lead + length body
   type-count = rw (type-words, length-append, pointers-length) refl
 
-  pub too-wide : 48 < 3 * e .lead + length body → Told outcome (notGiven 15 0) s s t t
+  pub too-wide : 48 < 3 * e .lead + length body → Hands outcome (notGiven 15 0) s s t t
   unfolding planned delivered
   too-wide h =
       let n : 16 < length type = omega (arith, type-count, spelled-length type) in
@@ -106,7 +102,7 @@ module _ (b : List ℕ) (m taken : ℕ) (e : Ending) (body s t : List ℕ) (room
     narrow-type : length type ≤ 16
     narrow-type = omega (arith, type-count, spelled-length type)
 
-    pub too-short : (ltb (length s) (4 * m) || ltb (length t) (3 * e .lead + length body)) ≡ true → Told outcome (notGiven 14 0) s s t t
+    pub too-short : (ltb (length s) (4 * m) || ltb (length t) (3 * e .lead + length body)) ≡ true → Hands outcome (notGiven 14 0) s s t t
     unfolding planned delivered
     too-short f = refuses outcome 14 0 s t (rw (le-ltb 16 (length type) narrow-type, step-words, step-count, type-count, f))
 
@@ -117,7 +113,7 @@ module _ (b : List ℕ) (m taken : ℕ) (e : Ending) (body s t : List ℕ) (room
 
       pub wrote : (f₁ x y z : List ℕ) → 3 * e .lead + length body ≤ length t → f₁ ≡ spelled (replicate (e .lead) pointer) →
           x ≡ written ws s → y ≡ written f₁ t → z ≡ written body (part (3 * e .lead) y) →
-          Told outcome
+          Hands outcome
           (record { refusal = 0; value = 0; steps = m; taken = taken; layers = (3 * e .lead + length body) / 3; address = e .address; coerced = e .coerced })
           s x t (put (3 * e .lead) y z)
       unfolding told stepsOver typeOver

@@ -1,4 +1,5 @@
 -- A plan as it is told and written: "Two outputs, steps and type; 14 if either is too short, and then neither is touched."
+use mathlib.Core.Path.{_≡_}
 use mathlib.Core.Bool.{false, cond, _||_}
 use mathlib.Core.List.{List}
 use Prim.Native.Nat.{ℕ, _*_}
@@ -47,6 +48,14 @@ unfoldable pub typeOver : Answer Plan → List ℕ → List ℕ
 typeOver (given p) b = written (spelled (p .type)) b
 typeOver nothing b = b
 typeOver (refused n q) b = b
+
+-- What is handed out for an answer: the report r, and the outputs b and c, which hold b′ and c′ then.
+abbrev pub Hands : Answer Plan → Report → List ℕ → List ℕ → List ℕ → List ℕ → Type 0
+Hands a r b b′ c c′ = (r ≡ told a) × ((b′ ≡ stepsOver a b) × (c′ ≡ typeOver a c))
+
+-- The same for an answer that asks how long the outputs are.
+abbrev pub Delivers : (ℕ → ℕ → Answer Plan) → Report → List ℕ → List ℕ → List ℕ → List ℕ → Type 0
+Delivers answer r b b′ c c′ = Hands (answer (length b) (length c)) r b b′ c c′
 
 -- The plan that stands in a report and in the two outputs: so many steps, and so many layers, from the first words on.
 abbrev pub planRead : Report → List ℕ → List ℕ → Plan

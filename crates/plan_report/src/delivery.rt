@@ -36,9 +36,9 @@ pub fn deliver(
     ty: &mut [u64],
 ) -> Report
     requires { ⌜ (4 * m ≤ length (now buf)) × Whole (now body) × (e .lead ≤ 255) ⌝ }
-    ensures answer { λ r. ⌜ r ≡ report.told (report.delivered (length (now (steps .entry))) (length (now (ty .entry))) (planned (take (4 * m) (now (buf .entry))) taken e (now (body .entry)))) ⌝ }
-    ensures written { λ _. ⌜ now (steps .exit) ≡ report.stepsOver (report.delivered (length (now (steps .entry))) (length (now (ty .entry))) (planned (take (4 * m) (now (buf .entry))) taken e (now (body .entry)))) (now (steps .entry)) ⌝ }
-    ensures reported { λ _. ⌜ now (ty .exit) ≡ report.typeOver (report.delivered (length (now (steps .entry))) (length (now (ty .entry))) (planned (take (4 * m) (now (buf .entry))) taken e (now (body .entry)))) (now (ty .entry)) ⌝ }
+    ensures { λ r. ⌜ report.Delivers
+        (λ room wide. report.delivered room wide (planned (take (4 * m) (now (buf .entry))) taken e (now (body .entry))))
+        r (now (steps .entry)) (now (steps .exit)) (now (ty .entry)) (now (ty .exit)) ⌝ }
 {
     let lead = 3 * e.lead as usize;
     let words = lead + body.len();

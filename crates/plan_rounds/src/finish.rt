@@ -43,9 +43,9 @@ pub(crate) fn finish<'a>(
     ty: &mut [u64],
 ) -> Report
     requires { ⌜ Whole (now cur) × Whole (now target) × (level ≤ 255) × (4 * (n + limit.layers) ≤ length (now buf)) ⌝ }
-    ensures answer { λ r. ⌜ r ≡ report.told (finished (take (4 * n) (now (buf .entry))) taken (layers (now (cur .entry))) (layers (now (target .entry))) level (length (now (steps .entry))) (length (now (ty .entry)))) ⌝ }
-    ensures written { λ _. ⌜ now (steps .exit) ≡ report.stepsOver (finished (take (4 * n) (now (buf .entry))) taken (layers (now (cur .entry))) (layers (now (target .entry))) level (length (now (steps .entry))) (length (now (ty .entry)))) (now (steps .entry)) ⌝ }
-    ensures reported { λ _. ⌜ now (ty .exit) ≡ report.typeOver (finished (take (4 * n) (now (buf .entry))) taken (layers (now (cur .entry))) (layers (now (target .entry))) level (length (now (steps .entry))) (length (now (ty .entry)))) (now (ty .entry)) ⌝ }
+    ensures { λ r. ⌜ report.Delivers
+        (finished (take (4 * n) (now (buf .entry))) taken (layers (now (cur .entry))) (layers (now (target .entry))) level)
+        r (now (steps .entry)) (now (steps .exit)) (now (ty .entry)) (now (ty .exit)) ⌝ }
 {
     let s = settle(cur, target, level);
     let e = ending_of(s, depth(cur), level);

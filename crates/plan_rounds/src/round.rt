@@ -42,7 +42,8 @@ pub(crate) fn onto<'a>(
     q: &[u64],
     t: Turn,
 ) -> &'a [u64]
-    ensures { λ r. ⌜ now r ≡ rounds.onto (memberIn (now (flat .entry)) n (now (store .entry))) (now (cur .entry)) (stepAt (now (q .entry)) .handle) (ofTurn t) ⌝ }
+    ensures { λ r. ⌜ now r ≡ rounds.onto (memberIn (now (flat .entry)) n (now (store .entry)))
+        (now (cur .entry)) (stepAt (now (q .entry)) .handle) (ofTurn t) ⌝ }
 {
     match t {
         Turn::Stuck => cur,

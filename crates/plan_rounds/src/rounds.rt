@@ -12,7 +12,7 @@ use type_numbers::Refusal;
 use type_wellformed::is_wellformed;
 ghost use mathlib.Core.Path.{_≡_};
 ghost use Prim.Native.Nat.{_≤_, _*_};
-ghost use lib.ListN.{length, drop};
+ghost use lib.ListN.{drop};
 ghost use Rattle.type_numbers.specs.Limit as limit;
 ghost use Rattle.type_layers.specs.AsCoded.{Whole};
 ghost use Rattle.symbol_members.specs.AsCoded.{memberIn};
@@ -48,9 +48,10 @@ pub fn plan_in_rounds<'a>(
 ) -> Report
     requires { ⌜ Whole (now known) × Whole (now target) × (level ≤ 255) × (rounds ≤ limit.rounds) ⌝ }
     requires { ⌜ AllWhole (memberIn (now flat) count (now store)) ⌝ }
-    ensures answer { λ r. ⌜ r ≡ report.told (planInRounds (memberIn (now (flat .entry)) count (now (store .entry))) (now (known .entry)) (now (asked .entry)) (now (target .entry)) level rounds (length (now (steps .entry))) (length (now (ty .entry)))) ⌝ }
-    ensures written { λ _. ⌜ now (steps .exit) ≡ report.stepsOver (planInRounds (memberIn (now (flat .entry)) count (now (store .entry))) (now (known .entry)) (now (asked .entry)) (now (target .entry)) level rounds (length (now (steps .entry))) (length (now (ty .entry)))) (now (steps .entry)) ⌝ }
-    ensures reported { λ _. ⌜ now (ty .exit) ≡ report.typeOver (planInRounds (memberIn (now (flat .entry)) count (now (store .entry))) (now (known .entry)) (now (asked .entry)) (now (target .entry)) level rounds (length (now (steps .entry))) (length (now (ty .entry)))) (now (ty .entry)) ⌝ }
+    ensures { λ r. ⌜ report.Delivers
+        (planInRounds (memberIn (now (flat .entry)) count (now (store .entry)))
+        (now (known .entry)) (now (asked .entry)) (now (target .entry)) level rounds)
+        r (now (steps .entry)) (now (steps .exit)) (now (ty .entry)) (now (ty .exit)) ⌝ }
 {
     let mut buf = [0u64; Limit::PLAN_WORDS];
     let mut cur = known;

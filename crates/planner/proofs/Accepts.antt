@@ -27,7 +27,7 @@ use Rattle.walker_run.specs.Walked.{walkTo}
 use Rattle.walker_run.proofs.Theorems.{arrives-walk}
 use Rattle.plan_report.specs.declared.report.Report.{Report}
 use Rattle.plan_report.specs.Plan.{Plan}
-use Rattle.plan_report.specs.Report.{told, stepsOver, typeOver, planRead}
+use Rattle.plan_report.specs.Report.{Delivers, planRead}
 use Rattle.planner.specs.Answers.{planAnswer}
 use Rattle.planner.specs.Demand.{Hidden, Demand}
 use Rattle.planner.specs.Accepts.{Agrees, Accepts}
@@ -36,9 +36,7 @@ use Rattle.planner.proofs.Carried.{Given, front, members-pass, known-pa
 use Rattle.planner.proofs.Excluded.{exception-shows}
 
 module _ (table : List Symbol) (store known asked target : List ℕ) (depth limit : ℕ) (r : Report) (b b′ c c′ : List ℕ)
-    (h : (r ≡ told (planAnswer table store known asked target depth limit (length b) (length c)))
-    × (b′ ≡ stepsOver (planAnswer table store known asked target depth limit (length b) (length c)) b)
-    × (c′ ≡ typeOver (planAnswer table store known asked target depth limit (length b) (length c)) c))
+    (h : Delivers (planAnswer table store known asked target depth limit) r b b′ c c′)
     (z : r .refusal ≡ 0) where
   abbrev stored : ℕ → Stored
   stored = members table store

@@ -45,7 +45,7 @@ use Rattle.plan_rounds.proofs.Finishing.{whole-few}
 use Rattle.plan_report.specs.declared.report.Report.{Report}
 use Rattle.plan_report.specs.Plan.{Plan}
 use Rattle.planner.specs.Plan.{planOf}
-use Rattle.plan_report.specs.Report.{delivered, told, stepsOver, typeOver, planRead}
+use Rattle.plan_report.specs.Report.{delivered, told, stepsOver, typeOver, planRead, Delivers}
 use Rattle.planner.specs.Answers.{limits, planned, planAnswer}
 use Rattle.planner.specs.Demand.{Demand}
 use Rattle.planner.specs.Reported.{Reported}
@@ -206,9 +206,7 @@ module _ (table : List Symbol) (store known asked target : List ℕ) (depth limi
 
   -- what a report and two outputs say, where the plan is given
   module _ (r : Report) (b b′ c c′ : List ℕ)
-      (h : (r ≡ told (planAnswer table store known asked target depth limit (length b) (length c)))
-      × (b′ ≡ stepsOver (planAnswer table store known asked target depth limit (length b) (length c)) b)
-      × (c′ ≡ typeOver (planAnswer table store known asked target depth limit (length b) (length c)) c))
+      (h : Delivers (planAnswer table store known asked target depth limit) r b b′ c c′)
       (z : r .refusal ≡ 0) where
     found : (p : Plan) × (planAnswer table store known asked target depth limit (length b) (length c) ≡ given p)
     found = not-refused table store known asked target depth limit (length b) (length c) (ap (λ (x : Report). x .refusal) (sym (h .0)) ∙ z)
@@ -220,10 +218,10 @@ module _ (table : List Symbol) (store known asked target : List ℕ) (depth limi
     report-is = h .0 ∙ ap told (found .1)
 
     steps-are : b′ ≡ stepsOver (given (found .0)) b
-    steps-are = h .1 ∙ ap (λ (a : Answer Plan). stepsOver a b) (found .1)
+    steps-are = h .1 .0 ∙ ap (λ (a : Answer Plan). stepsOver a b) (found .1)
 
     type-is-over : c′ ≡ typeOver (given (found .0)) c
-    type-is-over = h .2 ∙ ap (λ (a : Answer Plan). typeOver a c) (found .1)
+    type-is-over = h .1 .1 ∙ ap (λ (a : Answer Plan). typeOver a c) (found .1)
 
     -- the plan that stands in the report and in the outputs is the one that the rules give
     read : planRead r b′ c′ ≡ found .0

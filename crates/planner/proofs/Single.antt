@@ -27,4 +27,4 @@ module _ {M : Type 1} (𝓤 : URA M) (H : Heap 𝓤) (A : Atoms 𝓤) (mem : Mem
   pub autoderef-single : (κs : Lfts 5) (a : Args autoderef.signature κs) →
       Walked 𝓤 (autoderef.clauses 𝓤 H A mem run κs a .ensures tt)
       (λ x s y t. (x ≡ y) × (now (s .1 .1 .1 .1 .1 .1 .1 .0) ≡ now (t .1 .1 .1 .1 .1 .1 .1 .0)) × (now (s .1 .1 .1 .1 .1 .1 .1 .1 .0) ≡ now (t .1 .1 .1 .1 .1 .1 .1 .1 .0)))
-  autoderef-single κs a = (_, (λ x s. refl, λ x y s t p q. (p .0 ∙ sym (q .0), p .1 ∙ sym (q .1), p .2 ∙ sym (q .2))))
+  autoderef-single κs a = (_, (λ x s. refl, λ x y s t p q. (p .0 ∙ sym (q .0), p .1 .0 ∙ sym (q .1 .0), p .1 .1 ∙ sym (q .1 .1))))

@@ -3,8 +3,6 @@ use plan_report::Report;
 use symbol_columns::Column;
 use symbol_columns::Symbol;
 use symbol_lent::gather;
-ghost use mathlib.Core.Path.{_≡_};
-ghost use lib.ListN.{length};
 ghost use Rattle.plan_report.specs.Report as report;
 ghost use Rattle.planner.specs.Answers as answers;
 
@@ -20,9 +18,10 @@ pub fn autoderef<'a>(
     steps: &mut [u64],
     ty: &mut [u64],
 ) -> Report
-    ensures { λ r. ⌜ (r ≡ report.told (answers.planAnswer (now (table .entry)) (now (store .entry)) (now (known .entry)) (now (asked .entry)) (now (target .entry)) level rounds (length (now (steps .entry))) (length (now (ty .entry)))))
-        × (now (steps .exit) ≡ report.stepsOver (answers.planAnswer (now (table .entry)) (now (store .entry)) (now (known .entry)) (now (asked .entry)) (now (target .entry)) level rounds (length (now (steps .entry))) (length (now (ty .entry)))) (now (steps .entry)))
-        × (now (ty .exit) ≡ report.typeOver (answers.planAnswer (now (table .entry)) (now (store .entry)) (now (known .entry)) (now (asked .entry)) (now (target .entry)) level rounds (length (now (steps .entry))) (length (now (ty .entry)))) (now (ty .entry))) ⌝ }
+    ensures { λ r. ⌜ report.Delivers
+        (answers.planAnswer (now (table .entry)) (now (store .entry))
+        (now (known .entry)) (now (asked .entry)) (now (target .entry)) level rounds)
+        r (now (steps .entry)) (now (steps .exit)) (now (ty .entry)) (now (ty .exit)) ⌝ }
 {
     let mut columns = [0u64; Column::WORDS];
     gather(table, &mut columns);

@@ -11,7 +11,6 @@ use type_numbers::Refusal;
 use type_wellformed::is_wellformed;
 ghost use mathlib.Core.Path.{_≡_};
 ghost use Prim.Native.Nat.{_≤_};
-ghost use lib.ListN.{length};
 ghost use Rattle.type_numbers.specs.Limit as limit;
 ghost use Rattle.type_layers.specs.Answer.{ofChecked};
 ghost use Rattle.type_layers.specs.AsCoded.{Whole};
@@ -58,9 +57,10 @@ fn plan_checked<'a>(
     ty: &mut [u64],
 ) -> Report
     requires { ⌜ Whole (now known) × Whole (now target) × (rounds ≤ limit.rounds) ⌝ }
-    ensures answer { λ r. ⌜ r ≡ report.told (answers.planned (readFrom (now (flat .entry)) 0 count) (now (store .entry)) (now (known .entry)) (now (asked .entry)) (now (target .entry)) level rounds (length (now (steps .entry))) (length (now (ty .entry)))) ⌝ }
-    ensures written { λ _. ⌜ now (steps .exit) ≡ report.stepsOver (answers.planned (readFrom (now (flat .entry)) 0 count) (now (store .entry)) (now (known .entry)) (now (asked .entry)) (now (target .entry)) level rounds (length (now (steps .entry))) (length (now (ty .entry)))) (now (steps .entry)) ⌝ }
-    ensures reported { λ _. ⌜ now (ty .exit) ≡ report.typeOver (answers.planned (readFrom (now (flat .entry)) 0 count) (now (store .entry)) (now (known .entry)) (now (asked .entry)) (now (target .entry)) level rounds (length (now (steps .entry))) (length (now (ty .entry)))) (now (ty .entry)) ⌝ }
+    ensures { λ r. ⌜ report.Delivers
+        (answers.planned (readFrom (now (flat .entry)) 0 count) (now (store .entry))
+        (now (known .entry)) (now (asked .entry)) (now (target .entry)) level rounds)
+        r (now (steps .entry)) (now (steps .exit)) (now (ty .entry)) (now (ty .exit)) ⌝ }
 {
     if !in_order(flat, count, store) {
         return refuse(Refusal::TABLE_NOT_IN_ORDER, 0);
@@ -98,9 +98,10 @@ pub fn plan_among<'a>(
     steps: &mut [u64],
     ty: &mut [u64],
 ) -> Report
-    ensures answer { λ r. ⌜ r ≡ report.told (answers.planAnswer (readFrom (now (flat .entry)) 0 count) (now (store .entry)) (now (known .entry)) (now (asked .entry)) (now (target .entry)) level rounds (length (now (steps .entry))) (length (now (ty .entry)))) ⌝ }
-    ensures written { λ _. ⌜ now (steps .exit) ≡ report.stepsOver (answers.planAnswer (readFrom (now (flat .entry)) 0 count) (now (store .entry)) (now (known .entry)) (now (asked .entry)) (now (target .entry)) level rounds (length (now (steps .entry))) (length (now (ty .entry)))) (now (steps .entry)) ⌝ }
-    ensures reported { λ _. ⌜ now (ty .exit) ≡ report.typeOver (answers.planAnswer (readFrom (now (flat .entry)) 0 count) (now (store .entry)) (now (known .entry)) (now (asked .entry)) (now (target .entry)) level rounds (length (now (steps .entry))) (length (now (ty .entry)))) (now (ty .entry)) ⌝ }
+    ensures { λ r. ⌜ report.Delivers
+        (answers.planAnswer (readFrom (now (flat .entry)) 0 count) (now (store .entry))
+        (now (known .entry)) (now (asked .entry)) (now (target .entry)) level rounds)
+        r (now (steps .entry)) (now (steps .exit)) (now (ty .entry)) (now (ty .exit)) ⌝ }
 {
     match check_question(known, asked, target, rounds) {
         Checked::Refused { number, place } => refuse(number, place),

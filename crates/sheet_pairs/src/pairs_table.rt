@@ -20,7 +20,8 @@ ghost use Rattle.sheet_pairs.specs.Text as text;
 fn put_row(out: &mut [u8], at: usize, words: &[u64], n: usize, i: usize) -> usize
     requires { ⌜ (at + 576 ≤ length (now out)) × (n ≤ limit.sheetTypes) × (i < limit.sheetTypes) × (n ≡ length (types (now words))) ⌝ }
     ensures next { λ r. ⌜ r ≡ at + length (text.row (types (now (words .entry))) (i + 1) (typeAt i (now (words .entry)))) ⌝ }
-    ensures text { λ _. ⌜ now (out .exit) ≡ putAt at (text.row (types (now (words .entry))) (i + 1) (typeAt i (now (words .entry)))) (now (out .entry)) ⌝ }
+    ensures text { λ _. ⌜ now (out .exit)
+        ≡ putAt at (text.row (types (now (words .entry))) (i + 1) (typeAt i (now (words .entry)))) (now (out .entry)) ⌝ }
 {
     let left = type_at(words, i);
     let mut to = at;
@@ -74,7 +75,9 @@ fn put_table(out: &mut [u8], words: &[u64], n: usize) -> usize
 
 // Puts what `pairs` prints of the bytes that it read into a lent text, from its first byte on; and how long it is.
 pub fn pairs_text(bytes: &[u8], out: &mut [u8; Limit::PAIRS_BYTES]) -> usize
-    ensures length { λ r. ⌜ (r ≡ length (text.text (now (bytes .entry)))) × (r ≤ length (now (out .exit))) × (r ≡ length (take r (now (out .exit)))) ⌝ }
+    ensures length { λ r. ⌜ (r ≡ length (text.text (now (bytes .entry))))
+        × (r ≤ length (now (out .exit)))
+        × (r ≡ length (take r (now (out .exit)))) ⌝ }
     ensures text { λ _. ⌜ now (out .exit) ≡ written (text.text (now (bytes .entry))) (now (out .entry)) ⌝ }
 {
     match read_sheet(bytes) {

@@ -1,4 +1,5 @@
 -- No rule, but what contracts of the code need: what is done to a table, as the code hands it back.
+use mathlib.Core.Path.{_≡_}
 use mathlib.Core.Bool.{Bool, cond, not, _&&_}
 use mathlib.Core.List.{List}
 use Prim.Native.Nat.{ℕ}
@@ -50,3 +51,8 @@ changeOf (acts a) id authority place mark offered table store =
 
 unfoldable pub storeOf : Operation → ℕ → Bool → ℕ → ℕ → List ℕ → List Symbol → List ℕ → List ℕ
 storeOf op id authority place mark offered table store = outcome op id authority place mark offered table store .store
+
+-- What the code's core hands back: the change, and the store as it stands then.
+abbrev pub Chooses : Operation → ℕ → Bool → ℕ → ℕ → List ℕ → List Symbol → List ℕ → Change → List ℕ → Type 0
+Chooses op id authority place mark offered table store r store′ =
+    (r ≡ changeOf op id authority place mark offered table store) × (store′ ≡ storeOf op id authority place mark offered table store)

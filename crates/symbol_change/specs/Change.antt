@@ -1,4 +1,5 @@
 -- Put, poison and forward declaration: what each does to a table and its store.
+use mathlib.Core.Path.{_≡_}
 use mathlib.Core.Bool.{Bool, cond}
 use mathlib.Core.List.{List, _++_}
 use Prim.Native.Nat.{ℕ, _*_}
@@ -30,6 +31,10 @@ pub record Outcome : Type 0 where
   pub answer : Answer
   pub table : List Symbol
   pub store : List ℕ
+
+-- What is handed out for an outcome: the answer, and the table and the store as they stand then.
+abbrev pub Becomes : Outcome → Answer → List Symbol → List ℕ → Type 0
+Becomes o r table store = (r ≡ o .answer) × (table ≡ o .table) × (store ≡ o .store)
 
 -- "Slot k's type stands in a lent store of words from 48k on.": the store with other words in slot k.
 abbrev pub withSlot : List ℕ → ℕ → List ℕ → List ℕ

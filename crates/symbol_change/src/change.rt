@@ -96,8 +96,9 @@ fn act_in(
     mark: u64,
     offered: &[u64],
 ) -> Change
-    ensures { λ r. ⌜ (r ≡ as-coded.changeOf (acts (ofAct act)) id authority place mark (now (offered .entry)) (readFrom (now (flat .entry)) 0 n) (now (store .entry)))
-        × (now (store .exit) ≡ as-coded.storeOf (acts (ofAct act)) id authority place mark (now (offered .entry)) (readFrom (now (flat .entry)) 0 n) (now (store .entry))) ⌝ }
+    ensures { λ r. ⌜ as-coded.Chooses
+        (acts (ofAct act)) id authority place mark (now (offered .entry)) (readFrom (now (flat .entry)) 0 n) (now (store .entry))
+        r (now (store .exit)) ⌝ }
 {
     match way_of(act, flat, n, store, id, offered) {
         Way::Refused { number, place: at } => nowhere(n, refused(number, at)),
@@ -133,8 +134,9 @@ pub fn choose(
     mark: u64,
     offered: &[u64],
 ) -> Change
-    ensures { λ r. ⌜ (r ≡ as-coded.changeOf (ofOperation operation) id authority place mark (now (offered .entry)) (readFrom (now (flat .entry)) 0 n) (now (store .entry)))
-        × (now (store .exit) ≡ as-coded.storeOf (ofOperation operation) id authority place mark (now (offered .entry)) (readFrom (now (flat .entry)) 0 n) (now (store .entry))) ⌝ }
+    ensures { λ r. ⌜ as-coded.Chooses
+        (ofOperation operation) id authority place mark (now (offered .entry)) (readFrom (now (flat .entry)) 0 n) (now (store .entry))
+        r (now (store .exit)) ⌝ }
 {
     match act_of(operation) {
         Asked::Nothing => keep(flat, n, store),

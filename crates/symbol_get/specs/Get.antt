@@ -1,4 +1,5 @@
 -- Get: what a table has under a name.
+use mathlib.Core.Path.{_≡_}
 use mathlib.Core.Bool.{Bool, true, cond}
 use mathlib.Core.List.{List, []}
 use Prim.Native.Nat.{ℕ}
@@ -44,6 +45,10 @@ foundAfter got′.absent before = before
 foundAfter (got′.typed k) before = k
 foundAfter (got′.poisoned m) before = m
 foundAfter (got′.refused n p) before = before
+
+-- What is handed out: the answer, and what stands behind the pointer, before and then.
+abbrev pub Tells : Got → Answer → ℕ → ℕ → Type 0
+Tells g r before after = (r ≡ told g) × (after ≡ foundAfter g before)
 
 -- "symbol get return the part of the lent words that holds the .. stored type": no words where there is no type.
 abbrev pub typeIn : Got → List Symbol → List ℕ → List ℕ

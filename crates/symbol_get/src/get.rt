@@ -76,8 +76,8 @@ pub fn get_among(
     authority: bool,
     found: &mut u64,
 ) -> Answer
-    ensures { λ r. ⌜ (r ≡ rules.told (rules.got id authority (readFrom (now (flat .entry)) 0 n) (now (store .entry))))
-        × (now (found .exit) ≡ rules.foundAfter (rules.got id authority (readFrom (now (flat .entry)) 0 n) (now (store .entry))) (now (found .entry))) ⌝ }
+    ensures { λ r. ⌜ rules.Tells (rules.got id authority (readFrom (now (flat .entry)) 0 n) (now (store .entry)))
+        r (now (found .entry)) (now (found .exit)) ⌝ }
 {
     let got = look(flat, n, store, id, authority);
     tell(got, found)

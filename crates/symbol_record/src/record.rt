@@ -58,8 +58,9 @@ pub fn overwrite(
     mark: u64,
     offered: &[u64],
 ) -> Updated
-    ensures { λ r. ⌜ (r ≡ as-coded.seen (rules.overwrites (ofAct act) s (now (words .entry)) id authority place mark (now (offered .entry))))
-        × (now (words .exit) ≡ rules.overwrites (ofAct act) s (now (words .entry)) id authority place mark (now (offered .entry)) .words) ⌝ }
+    ensures { λ r. ⌜ as-coded.Does
+        (rules.overwrites (ofAct act) s (now (words .entry)) id authority place mark (now (offered .entry)))
+        r (now (words .exit)) ⌝ }
 {
     match act {
         Act::PutPoison => Updated {

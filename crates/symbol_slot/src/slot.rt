@@ -56,7 +56,8 @@ fn slot_for(flat: &Columns, n: usize, store: &[u64], id: u32) -> Way
 
 // The refusals of the offered type come before those of the table.
 pub fn way_of(act: Act, flat: &Columns, n: usize, store: &[u64], id: u32, offered: &[u64]) -> Way
-    ensures { λ r. ⌜ rules.ofWay r ≡ rules.wayOf (ofAct act) id (now (offered .entry)) (readFrom (now (flat .entry)) 0 n) (now (store .entry)) ⌝ }
+    ensures { λ r. ⌜ rules.ofWay r
+        ≡ rules.wayOf (ofAct act) id (now (offered .entry)) (readFrom (now (flat .entry)) 0 n) (now (store .entry)) ⌝ }
 {
     match check_offered(act, offered) {
         Checked::Refused { number, place } => Way::Refused { number, place },

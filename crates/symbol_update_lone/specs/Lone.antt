@@ -1,4 +1,5 @@
 -- "A lone lent symbol with its words is judged as a table of one, and gets 12 if free too."
+use mathlib.Core.Path.{_≡_}
 use mathlib.Core.Bool.{Bool, cond, not, _&&_}
 use mathlib.Core.List.{List, [], _∷_}
 use Prim.Native.Nat.{ℕ}
@@ -36,3 +37,10 @@ keptWhereRefused (refused n p) ws after = ws
 
 unfoldable pub loneWordsAfter : Symbol → List ℕ → Bool → List ℕ → List ℕ
 loneWordsAfter s ws authority offered = keptWhereRefused (loneCheck s ws offered) ws (wordsAfter s ws authority offered)
+
+-- What is handed out for the update of a lone symbol: the answer, and the symbol and its words as they stand then.
+abbrev pub LoneBecomes : Symbol → List ℕ → ℕ → Bool → ℕ → List ℕ → Answer → Symbol → List ℕ → Type 0
+LoneBecomes s ws id authority place offered r s′ ws′ =
+    (r ≡ loneUpdated s ws id authority place offered .answer)
+    × (s′ ≡ loneUpdated s ws id authority place offered .symbol)
+    × (ws′ ≡ loneWordsAfter s ws authority offered)

@@ -67,9 +67,9 @@ pub fn do_update_symbol(
     place: u64,
     offered: &[u64],
 ) -> Answer
-    ensures { λ r. ⌜ (r ≡ rules.loneUpdated (now (symbol .entry)) (now (words .entry)) id authority place (now (offered .entry)) .answer)
-        × (now (symbol .exit) ≡ rules.loneUpdated (now (symbol .entry)) (now (words .entry)) id authority place (now (offered .entry)) .symbol)
-        × (now (words .exit) ≡ rules.loneWordsAfter (now (symbol .entry)) (now (words .entry)) authority (now (offered .entry))) ⌝ }
+    ensures { λ r. ⌜ rules.LoneBecomes
+        (now (symbol .entry)) (now (words .entry)) id authority place (now (offered .entry))
+        r (now (symbol .exit)) (now (words .exit)) ⌝ }
 {
     let s = *symbol;
     let u = update_lone(s, words, id, authority, place, offered);

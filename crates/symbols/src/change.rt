@@ -4,7 +4,6 @@ use symbol_columns::Symbol;
 use symbol_lent::gather;
 use symbol_operations::Operation;
 use write_answer::Answer;
-ghost use mathlib.Core.Path.{_≡_};
 ghost use Rattle.symbol_operations.specs.Operations.{ofOperation};
 ghost use Rattle.symbol_change.specs.Change as rules;
 
@@ -20,9 +19,9 @@ pub fn change_symbol(
     mark: u64,
     offered: &[u64],
 ) -> Answer
-    ensures { λ r. ⌜ (r ≡ rules.outcome (ofOperation operation) id authority place mark (now (offered .entry)) (now (table .entry)) (now (store .entry)) .answer)
-        × (now (table .exit) ≡ rules.outcome (ofOperation operation) id authority place mark (now (offered .entry)) (now (table .entry)) (now (store .entry)) .table)
-        × (now (store .exit) ≡ rules.outcome (ofOperation operation) id authority place mark (now (offered .entry)) (now (table .entry)) (now (store .entry)) .store) ⌝ }
+    ensures { λ r. ⌜ rules.Becomes
+        (rules.outcome (ofOperation operation) id authority place mark (now (offered .entry)) (now (table .entry)) (now (store .entry)))
+        r (now (table .exit)) (now (store .exit)) ⌝ }
 {
     let mut flat = [0u64; Column::WORDS];
     gather(table, &mut flat);

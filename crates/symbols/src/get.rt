@@ -15,8 +15,8 @@ pub fn get_symbol(
     authority: bool,
     found: &mut u64,
 ) -> Answer
-    ensures { λ r. ⌜ (r ≡ rules.told (rules.got id authority (now (table .entry)) (now (store .entry))))
-        × (now (found .exit) ≡ rules.foundAfter (rules.got id authority (now (table .entry)) (now (store .entry))) (now (found .entry))) ⌝ }
+    ensures { λ r. ⌜ rules.Tells (rules.got id authority (now (table .entry)) (now (store .entry)))
+        r (now (found .entry)) (now (found .exit)) ⌝ }
 {
     let mut flat = [0u64; Column::WORDS];
     gather(table, &mut flat);

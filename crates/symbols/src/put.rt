@@ -6,7 +6,6 @@ use symbol_operations::Operation;
 use symbol_operations::forward;
 use symbol_operations::put;
 use write_answer::Answer;
-ghost use mathlib.Core.Path.{_≡_};
 ghost use mathlib.Core.List.{[]};
 ghost use Rattle.symbol_operations.specs.Act as act;
 ghost use Rattle.symbol_operations.specs.Operation.{acts};
@@ -24,9 +23,9 @@ pub fn put_symbol(
     mark: u64,
     offered: &[u64],
 ) -> Answer
-    ensures { λ r. ⌜ (r ≡ rules.outcome (operations.put offer) id authority place mark (now (offered .entry)) (now (table .entry)) (now (store .entry)) .answer)
-        × (now (table .exit) ≡ rules.outcome (operations.put offer) id authority place mark (now (offered .entry)) (now (table .entry)) (now (store .entry)) .table)
-        × (now (store .exit) ≡ rules.outcome (operations.put offer) id authority place mark (now (offered .entry)) (now (table .entry)) (now (store .entry)) .store) ⌝ }
+    ensures { λ r. ⌜ rules.Becomes
+        (rules.outcome (operations.put offer) id authority place mark (now (offered .entry)) (now (table .entry)) (now (store .entry)))
+        r (now (table .exit)) (now (store .exit)) ⌝ }
 {
     change_symbol(
         table,
@@ -49,9 +48,9 @@ pub fn poison_symbol(
     place: u64,
     mark: u64,
 ) -> Answer
-    ensures { λ r. ⌜ (r ≡ rules.outcome (acts act.putPoison) id authority place mark [] (now (table .entry)) (now (store .entry)) .answer)
-        × (now (table .exit) ≡ rules.outcome (acts act.putPoison) id authority place mark [] (now (table .entry)) (now (store .entry)) .table)
-        × (now (store .exit) ≡ rules.outcome (acts act.putPoison) id authority place mark [] (now (table .entry)) (now (store .entry)) .store) ⌝ }
+    ensures { λ r. ⌜ rules.Becomes
+        (rules.outcome (acts act.putPoison) id authority place mark [] (now (table .entry)) (now (store .entry)))
+        r (now (table .exit)) (now (store .exit)) ⌝ }
 {
     let none = [0u64; 1];
     change_symbol(
@@ -77,9 +76,10 @@ pub fn forward_declare_symbol(
     mark: u64,
     offered: &[u64],
 ) -> Answer
-    ensures { λ r. ⌜ (r ≡ rules.outcome (operations.forward declared) id authority place mark (now (offered .entry)) (now (table .entry)) (now (store .entry)) .answer)
-        × (now (table .exit) ≡ rules.outcome (operations.forward declared) id authority place mark (now (offered .entry)) (now (table .entry)) (now (store .entry)) .table)
-        × (now (store .exit) ≡ rules.outcome (operations.forward declared) id authority place mark (now (offered .entry)) (now (table .entry)) (now (store .entry)) .store) ⌝ }
+    ensures { λ r. ⌜ rules.Becomes
+        (rules.outcome (operations.forward declared) id authority place mark
+        (now (offered .entry)) (now (table .entry)) (now (store .entry)))
+        r (now (table .exit)) (now (store .exit)) ⌝ }
 {
     change_symbol(
         table,

@@ -228,7 +228,7 @@ module _ {M : Type 1} (𝓤 : URA M) (H : Heap 𝓤) (A : Atoms 𝓤) (mem : Mem
 
   pub tj-autoderef-single : (κs : Lfts 5) (a : Args tj-autoderef.signature κs) → Walked 𝓤 (tj-autoderef.clauses 𝓤 H A mem run κs a .ensures tt)
       (λ x s y t. (x ≡ y) × (now (s .1 .1 .1 .1 .1 .1 .1 .0) ≡ now (t .1 .1 .1 .1 .1 .1 .1 .0)) × (now (s .1 .1 .1 .1 .1 .1 .1 .1 .0) ≡ now (t .1 .1 .1 .1 .1 .1 .1 .1 .0)))
-  tj-autoderef-single κs a = (_, (λ x s. refl, λ x y s t p q. (p .0 ∙ sym (q .0), p .1 ∙ sym (q .1), p .2 ∙ sym (q .2))))
+  tj-autoderef-single κs a = (_, (λ x s. refl, λ x y s t p q. (p .0 ∙ sym (q .0), p .1 .0 ∙ sym (q .1 .0), p .1 .1 ∙ sym (q .1 .1))))
 
   pub tj-walk-single : (κs : Lfts 4) (a : Args tj-walk.signature κs) → Walked 𝓤 (tj-walk.clauses 𝓤 H A mem run κs a .ensures tt)
       (λ x s y t. (x ≡ y) × (now (s .1 .1 .1 .1 .1 .0) ≡ now (t .1 .1 .1 .1 .1 .0)))

@@ -6,7 +6,6 @@ use symbols::get_symbol;
 use symbols::poison_symbol;
 use symbols::put_symbol;
 use write_answer::Answer;
-ghost use mathlib.Core.Path.{_≡_};
 ghost use mathlib.Core.List.{[]};
 ghost use Rattle.symbol_update_lone.specs.Lone as rules;
 ghost use Rattle.symbol_operations.specs.Act as act;
@@ -23,9 +22,9 @@ pub extern "C" fn tj_update_symbol(
     place: u64,
     offered: &[u64],
 ) -> Answer
-    ensures { λ r. ⌜ (r ≡ rules.loneUpdated (now (symbol .entry)) (now (words .entry)) id authority place (now (offered .entry)) .answer)
-        × (now (symbol .exit) ≡ rules.loneUpdated (now (symbol .entry)) (now (words .entry)) id authority place (now (offered .entry)) .symbol)
-        × (now (words .exit) ≡ rules.loneWordsAfter (now (symbol .entry)) (now (words .entry)) authority (now (offered .entry))) ⌝ }
+    ensures { λ r. ⌜ rules.LoneBecomes
+        (now (symbol .entry)) (now (words .entry)) id authority place (now (offered .entry))
+        r (now (symbol .exit)) (now (words .exit)) ⌝ }
 {
     symbol_update_lone::do_update_symbol(symbol, words, id, authority, place, offered)
 }
@@ -38,9 +37,9 @@ pub extern "C" fn tj_put_nothing(
     authority: bool,
     place: u64,
 ) -> Answer
-    ensures { λ r. ⌜ (r ≡ changes.outcome putNothing id authority place 0 [] (now (table .entry)) (now (store .entry)) .answer)
-        × (now (table .exit) ≡ changes.outcome putNothing id authority place 0 [] (now (table .entry)) (now (store .entry)) .table)
-        × (now (store .exit) ≡ changes.outcome putNothing id authority place 0 [] (now (table .entry)) (now (store .entry)) .store) ⌝ }
+    ensures { λ r. ⌜ changes.Becomes
+        (changes.outcome putNothing id authority place 0 [] (now (table .entry)) (now (store .entry)))
+        r (now (table .exit)) (now (store .exit)) ⌝ }
 {
     let none = [0u64; 1];
     put_symbol(
@@ -64,9 +63,9 @@ pub extern "C" fn tj_put_type(
     place: u64,
     offered: &[u64],
 ) -> Answer
-    ensures { λ r. ⌜ (r ≡ changes.outcome (acts act.putType) id authority place 0 (now (offered .entry)) (now (table .entry)) (now (store .entry)) .answer)
-        × (now (table .exit) ≡ changes.outcome (acts act.putType) id authority place 0 (now (offered .entry)) (now (table .entry)) (now (store .entry)) .table)
-        × (now (store .exit) ≡ changes.outcome (acts act.putType) id authority place 0 (now (offered .entry)) (now (table .entry)) (now (store .entry)) .store) ⌝ }
+    ensures { λ r. ⌜ changes.Becomes
+        (changes.outcome (acts act.putType) id authority place 0 (now (offered .entry)) (now (table .entry)) (now (store .entry)))
+        r (now (table .exit)) (now (store .exit)) ⌝ }
 {
     put_symbol(table, store, Offer::Type, id, authority, place, 0, offered)
 }
@@ -80,9 +79,9 @@ pub extern "C" fn tj_put_poison(
     place: u64,
     mark: u64,
 ) -> Answer
-    ensures { λ r. ⌜ (r ≡ changes.outcome (acts act.putPoison) id authority place mark [] (now (table .entry)) (now (store .entry)) .answer)
-        × (now (table .exit) ≡ changes.outcome (acts act.putPoison) id authority place mark [] (now (table .entry)) (now (store .entry)) .table)
-        × (now (store .exit) ≡ changes.outcome (acts act.putPoison) id authority place mark [] (now (table .entry)) (now (store .entry)) .store) ⌝ }
+    ensures { λ r. ⌜ changes.Becomes
+        (changes.outcome (acts act.putPoison) id authority place mark [] (now (table .entry)) (now (store .entry)))
+        r (now (table .exit)) (now (store .exit)) ⌝ }
 {
     poison_symbol(table, store, id, authority, place, mark)
 }
@@ -96,9 +95,9 @@ pub extern "C" fn tj_forward_declare_type(
     place: u64,
     offered: &[u64],
 ) -> Answer
-    ensures { λ r. ⌜ (r ≡ changes.outcome (acts act.forwardType) id authority place 0 (now (offered .entry)) (now (table .entry)) (now (store .entry)) .answer)
-        × (now (table .exit) ≡ changes.outcome (acts act.forwardType) id authority place 0 (now (offered .entry)) (now (table .entry)) (now (store .entry)) .table)
-        × (now (store .exit) ≡ changes.outcome (acts act.forwardType) id authority place 0 (now (offered .entry)) (now (table .entry)) (now (store .entry)) .store) ⌝ }
+    ensures { λ r. ⌜ changes.Becomes
+        (changes.outcome (acts act.forwardType) id authority place 0 (now (offered .entry)) (now (table .entry)) (now (store .entry)))
+        r (now (table .exit)) (now (store .exit)) ⌝ }
 {
     forward_declare_symbol(
         table,
@@ -121,9 +120,9 @@ pub extern "C" fn tj_forward_declare_poison(
     place: u64,
     mark: u64,
 ) -> Answer
-    ensures { λ r. ⌜ (r ≡ changes.outcome (acts act.forwardPoison) id authority place mark [] (now (table .entry)) (now (store .entry)) .answer)
-        × (now (table .exit) ≡ changes.outcome (acts act.forwardPoison) id authority place mark [] (now (table .entry)) (now (store .entry)) .table)
-        × (now (store .exit) ≡ changes.outcome (acts act.forwardPoison) id authority place mark [] (now (table .entry)) (now (store .entry)) .store) ⌝ }
+    ensures { λ r. ⌜ changes.Becomes
+        (changes.outcome (acts act.forwardPoison) id authority place mark [] (now (table .entry)) (now (store .entry)))
+        r (now (table .exit)) (now (store .exit)) ⌝ }
 {
     let none = [0u64; 1];
     forward_declare_symbol(
@@ -146,8 +145,8 @@ pub extern "C" fn tj_get_symbol(
     authority: bool,
     found: &mut u64,
 ) -> Answer
-    ensures { λ r. ⌜ (r ≡ gets.told (gets.got id authority (now (table .entry)) (now (store .entry))))
-        × (now (found .exit) ≡ gets.foundAfter (gets.got id authority (now (table .entry)) (now (store .entry))) (now (found .entry))) ⌝ }
+    ensures { λ r. ⌜ gets.Tells (gets.got id authority (now (table .entry)) (now (store .entry)))
+        r (now (found .entry)) (now (found .exit)) ⌝ }
 {
     get_symbol(table, store, id, authority, found)
 }

@@ -32,7 +32,8 @@ pub enum Start {
 // Where a part starts that reaches to the last word; a part without words is none.
 fn start_at(a: &[u64], part: &[u64]) -> Start
     requires { ⌜ length (now part) ≤ length (now a) ⌝ }
-    ensures { λ r. ⌜ ofStart r ≡ cond (eqb (length (now (part .entry))) 0) nothing (given (length (now (a .entry)) - length (now (part .entry)))) ⌝ }
+    ensures { λ r. ⌜ ofStart r
+        ≡ cond (eqb (length (now (part .entry))) 0) nothing (given (length (now (a .entry)) - length (now (part .entry)))) ⌝ }
 {
     if part.len() == 0 {
         return Start::Nothing;

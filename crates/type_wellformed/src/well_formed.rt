@@ -15,7 +15,8 @@ ghost use Rattle.type_wellformed.specs.WellFormed as formed;
 
 // Whether an array may hold a type with this outer kind.
 fn can_be_element(k: u64) -> bool
-    ensures { λ r. ⌜ r ≡ not (eqb k kind.void || eqb k kind.slice || eqb k kind.slicePointer || eqb k kind.view || eqb k kind.endlessArray) ⌝ }
+    ensures { λ r. ⌜ r
+        ≡ not (eqb k kind.void || eqb k kind.slice || eqb k kind.slicePointer || eqb k kind.view || eqb k kind.endlessArray) ⌝ }
 {
     !((k == Kind::VOID)
         | (k == Kind::SLICE)

@@ -11,10 +11,8 @@ ghost use lib.ListN.{drop};
 ghost use Rattle.type_numbers.specs.Kind as kind;
 ghost use Rattle.type_layers.specs.Layers.{layer, spelled};
 ghost use Rattle.type_layers.specs.Answer.{given};
-ghost use Rattle.write_type.specs.Outcome.{answerIn, bufferIn};
-ghost use Rattle.write_answer.specs.Flat.{flat};
 ghost use Rattle.walker_step.specs.AsCoded.{seen};
-ghost use Rattle.walker_arrival.specs.Arrived.{addressed};
+ghost use Rattle.walker_arrival.specs.Arrived.{addressed, HandsOut};
 
 // The words that stay: those behind the outer layer, where that counts as Arraylike.
 fn staying(cur: &[u64], desliced: bool) -> &[u64]
@@ -48,8 +46,9 @@ fn front_end(desliced: bool) -> usize
 
 // The arrival at the type at these words, whose outer layer counts as Arraylike where desliced is set, or at its address.
 pub fn arrive(out: &mut [u64], cur: &[u64], desliced: bool, address: bool) -> Answer
-    ensures answer { λ r. ⌜ r ≡ flat (answerIn (now (out .entry)) (given (addressed address (seen (now (cur .entry)) desliced)))) ⌝ }
-    ensures written { λ _. ⌜ now (out .exit) ≡ bufferIn (now (out .entry)) (given (addressed address (seen (now (cur .entry)) desliced))) ⌝ }
+    ensures { λ r. ⌜ HandsOut
+        (given (addressed address (seen (now (cur .entry)) desliced)))
+        r (now (out .entry)) (now (out .exit)) ⌝ }
 {
     let front = pointer_and_arraylike();
     let start = front_start(address);

@@ -22,10 +22,9 @@ ghost use Prim.Native.Nat.{_%_};
 ghost use lib.ListN.{length};
 ghost use Rattle.symbol_columns.specs.AsCoded.{readFrom};
 ghost use Rattle.symbol_order.specs.Order.{inOrder};
-ghost use Rattle.write_answer.specs.Flat.{flat};
 ghost use Rattle.type_layers.specs.AsCoded.{Whole};
-ghost use Rattle.write_type.specs.Outcome.{answerIn, bufferIn};
 ghost use Rattle.walker_run.specs.Walked as rules;
+ghost use Rattle.walker_arrival.specs.Arrived.{HandsOut};
 
 // Takes the steps, one after the other, and arrives.
 fn take_steps<'a>(
@@ -38,8 +37,9 @@ fn take_steps<'a>(
     out: &mut [u64],
 ) -> Answer
     requires { ⌜ Whole (now known) × ((length (now steps) % 4 ≡ 0) × (inOrder (readFrom (now columns) 0 n) (now store) ≡ true)) ⌝ }
-    ensures answer { λ r. ⌜ r ≡ flat (answerIn (now (out .entry)) (rules.walkFrom (now (known .entry)) (now (steps .entry)) address (readFrom (now (columns .entry)) 0 n) (now (store .entry)))) ⌝ }
-    ensures written { λ _. ⌜ now (out .exit) ≡ bufferIn (now (out .entry)) (rules.walkFrom (now (known .entry)) (now (steps .entry)) address (readFrom (now (columns .entry)) 0 n) (now (store .entry))) ⌝ }
+    ensures { λ r. ⌜ HandsOut
+        (rules.walkFrom (now (known .entry)) (now (steps .entry)) address (readFrom (now (columns .entry)) 0 n) (now (store .entry)))
+        r (now (out .entry)) (now (out .exit)) ⌝ }
 {
     let mut cur = known;
     let mut desliced = false;
@@ -71,8 +71,9 @@ fn walk_ordered<'a>(
     out: &mut [u64],
 ) -> Answer
     requires { ⌜ Whole (now known) × (length (now steps) % 4 ≡ 0) ⌝ }
-    ensures answer { λ r. ⌜ r ≡ flat (answerIn (now (out .entry)) (rules.walkOrdered (now (known .entry)) (now (steps .entry)) address (readFrom (now (columns .entry)) 0 n) (now (store .entry)))) ⌝ }
-    ensures written { λ _. ⌜ now (out .exit) ≡ bufferIn (now (out .entry)) (rules.walkOrdered (now (known .entry)) (now (steps .entry)) address (readFrom (now (columns .entry)) 0 n) (now (store .entry))) ⌝ }
+    ensures { λ r. ⌜ HandsOut
+        (rules.walkOrdered (now (known .entry)) (now (steps .entry)) address (readFrom (now (columns .entry)) 0 n) (now (store .entry)))
+        r (now (out .entry)) (now (out .exit)) ⌝ }
 {
     if in_order(columns, n, store) {
         return take_steps(columns, n, known, steps, address, store, out);
@@ -90,8 +91,9 @@ pub fn walk_among<'a>(
     store: &'a [u64],
     out: &mut [u64],
 ) -> Answer
-    ensures { λ r. ⌜ (r ≡ flat (answerIn (now (out .entry)) (rules.walkTo (now (known .entry)) (now (steps .entry)) address (readFrom (now (columns .entry)) 0 n) (now (store .entry)))))
-        × (now (out .exit) ≡ bufferIn (now (out .entry)) (rules.walkTo (now (known .entry)) (now (steps .entry)) address (readFrom (now (columns .entry)) 0 n) (now (store .entry)))) ⌝ }
+    ensures { λ r. ⌜ HandsOut
+        (rules.walkTo (now (known .entry)) (now (steps .entry)) address (readFrom (now (columns .entry)) 0 n) (now (store .entry)))
+        r (now (out .entry)) (now (out .exit)) ⌝ }
 {
     match check_type(known) {
         Checked::Refused { number, place } => refused(number, place),

@@ -3,10 +3,8 @@ use symbol_columns::Column;
 use symbol_columns::Symbol;
 use symbol_lent::gather;
 use write_answer::Answer;
-ghost use mathlib.Core.Path.{_≡_};
-ghost use Rattle.write_answer.specs.Flat.{flat};
-ghost use Rattle.write_type.specs.Outcome.{answerIn, bufferIn};
 ghost use Rattle.walker_run.specs.Walked as rules;
+ghost use Rattle.walker_arrival.specs.Arrived.{HandsOut};
 
 // Takes the steps from the known type, then the address where it is asked for, and writes the type that is reached.
 pub fn walk<'a>(
@@ -17,8 +15,9 @@ pub fn walk<'a>(
     store: &'a [u64],
     out: &mut [u64],
 ) -> Answer
-    ensures { λ r. ⌜ (r ≡ flat (answerIn (now (out .entry)) (rules.walkTo (now (known .entry)) (now (steps .entry)) address (now (table .entry)) (now (store .entry)))))
-        × (now (out .exit) ≡ bufferIn (now (out .entry)) (rules.walkTo (now (known .entry)) (now (steps .entry)) address (now (table .entry)) (now (store .entry)))) ⌝ }
+    ensures { λ r. ⌜ HandsOut
+        (rules.walkTo (now (known .entry)) (now (steps .entry)) address (now (table .entry)) (now (store .entry)))
+        r (now (out .entry)) (now (out .exit)) ⌝ }
 {
     let mut columns = [0u64; Column::WORDS];
     gather(table, &mut columns);

@@ -5,8 +5,8 @@ use write_words::write_words;
 ghost use mathlib.Core.Path.{_≡_};
 ghost use mathlib.Core.List.{_++_};
 ghost use Rattle.type_layers.specs.Layers.{layers, spelled};
-ghost use Rattle.type_layers.specs.Answer.{given, ofChecked};
-ghost use Rattle.write_type.specs.Outcome.{answerIn, bufferIn};
+ghost use Rattle.type_layers.specs.Answer.{given};
+ghost use Rattle.write_type.specs.Outcome.{Writes};
 
 // The words of the layers, without one or two that are left over.
 fn whole_layers(ws: &[u64]) -> &[u64]
@@ -17,8 +17,8 @@ fn whole_layers(ws: &[u64]) -> &[u64]
 
 // Writes a type that is made of some layers in front and the rest, where it may be written.
 pub fn write_type(out: &mut [u64], front: &[u64], rest: &[u64]) -> Checked
-    ensures answer { λ r. ⌜ ofChecked r ≡ answerIn (now (out .entry)) (given (layers (now (front .entry)) ++ layers (now (rest .entry)))) ⌝ }
-    ensures buffer { λ _. ⌜ now (out .exit) ≡ bufferIn (now (out .entry)) (given (layers (now (front .entry)) ++ layers (now (rest .entry)))) ⌝ }
+    ensures { λ r. ⌜ Writes (given (layers (now (front .entry)) ++ layers (now (rest .entry))))
+        r (now (out .entry)) (now (out .exit)) ⌝ }
 {
     let first = whole_layers(front);
     let after = whole_layers(rest);

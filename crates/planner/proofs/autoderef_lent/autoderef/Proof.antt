@@ -1,7 +1,7 @@
 -- `autoderef` meets its contract: a walk of its MIR, by hand. A local array is lent to `gather` with the table, and then to the covered core, with the other words and with the two outputs, which are given up for good.
 -- All that the proof knows of the two is that each meets its contract.
 -- Assumes nothing.
-use mathlib.Core.Path.{_≡_, refl, ap, subst, _∙_}
+use mathlib.Core.Path.{_≡_, refl, ap, subst}
 use Prim.Native.Nat.{ℕ, _<_, _^_}
 use mathlib.Core.List.{[], _∷_, List}
 use lib.ListN.{length}
@@ -49,7 +49,7 @@ use Rattle.symbol_lent.proofs.gather.Symbol.{name as #gather}
 use Rattle.symbol_lent.proofs.gather.Met as gather-thm
 use Rattle.plan_report.specs.declared.report.Report.{Report}
 use Rattle.plan_report.specs.Plan.{Plan}
-use Rattle.plan_report.specs.Report.{told, stepsOver, typeOver}
+use Rattle.plan_report.specs.Report.{Hands}
 use Rattle.planner.specs.Answers.{planAnswer}
 use Rattle.planner.proofs.Asking.{plan-same}
 use Rattle.plan_report.proofs.report.Report as B
@@ -151,21 +151,15 @@ module _ {M : Type 1} (𝓤 : URA M) (H : Heap 𝓤) (A : Atoms 𝓤) (W : Given
   abbrev answer : List Symbol → Answer Plan
   answer l = planAnswer l (x₄ .now) (x₁ .now) (x₂ .now) (x₃ .now) d m (length (x₅ .now)) (length (x₆ .now))
 
-  abbrev Answered : List Symbol → Report → Type 0
-  Answered l r = r ≡ told (answer l)
+  abbrev Said : List Symbol → Report → List ℕ → List ℕ → Type 0
+  Said l r zs us = Hands (answer l) r (x₅ .now) zs (x₆ .now) us
 
-  abbrev Stepped : List Symbol → List ℕ → Type 0
-  Stepped l zs = zs ≡ stepsOver (answer l) (x₅ .now)
-
-  abbrev Typed : List Symbol → List ℕ → Type 0
-  Typed l zs = zs ≡ typeOver (answer l) (x₆ .now)
-
-  on-table : (r : Report) (zs us : List ℕ) → Answered (readFrom (gathered ys) 0 n) r → Stepped (readFrom (gathered ys) 0 n) zs → Typed (readFrom (gathered ys) 0 n) us → Answered ys r × Stepped ys zs × Typed ys us
-  on-table r zs us h i j =
+  on-table : (r : Report) (zs us : List ℕ) → Said (readFrom (gathered ys) 0 n) r zs us → Said ys r zs us
+  on-table r zs us h =
       let same : answer (readFrom (gathered ys) 0 n) ≡ answer ys = plan-same (x₄ .now) (x₁ .now) (x₂ .now) (x₃ .now) d m (length (x₅ .now)) (length (x₆ .now)) ys in
-      (h ∙ ap told same, i ∙ ap (λ (p : Answer Plan). stepsOver p (x₅ .now)) same, j ∙ ap (λ (p : Answer Plan). typeOver p (x₆ .now)) same)
+      subst (λ (p : Answer Plan). Hands p r (x₅ .now) zs (x₆ .now) us) same h
 
-  exits : (r : Report) (zs us : List ℕ) → Is B.the-row r (B′.lowered r ∷ []) → Answered ys r × Stepped ys zs × Typed ys us → length zs ≡ length (x₅ .now) → length us ≡ length (x₆ .now)
+  exits : (r : Report) (zs us : List ℕ) → Is B.the-row r (B′.lowered r ∷ []) → Said ys r zs us → length zs ≡ length (x₅ .now) → length us ≡ length (x₆ .now)
       → ent 𝓤 (⋆ 𝓤 H A (TT ∷ ‵ Own₁ ∷ ‵ Own₂ ∷ ‵ Own₃ ∷ ‵ Own ∷ ‵ Own₄ ∷ ‵ (finally u64 (x₅ .name) zs) ∷ ‵ (finally u64 (x₆ .name) us) ∷ [])) (Post (B′.lowered r))
   exits r zs us is e l k =
       qed W (TT ∷ ‵ Own₁ ∷ ‵ Own₂ ∷ ‵ Own₃ ∷ ‵ Own ∷ ‵ Own₄ ∷ ‵ (finally u64 (x₅ .name) zs) ∷ ‵ (finally u64 (x₆ .name) us) ∷ []) ∵
@@ -277,14 +271,10 @@ module _ {M : Type 1} (𝓤 : URA M) (H : Heap 𝓤) (A : Atoms 𝓤) (W : Given
         use1 W (later (some (λ (r : Report). ((‵ (flft (ν ∷ []) fullShare) ⊛ Toks) ⊛ ‵ (B.the-row .own r (w ∷ []))) ⊛ raw (ensured 𝓤 H A core.ended (core.clauses 𝓤 H A at-mem run) (ν ∷ [], (κ₀, (κ₁, (κ₂, (κ₃, tt))))) (lent l₁₀ δ (gathered ys), (n, rest)) tt r)))) (id⊢ 𝓤 _) $ await ! tt $ pick ! (λ r.
         split ! $
         move ! (1 ∷ []) $
-        use1 W (some (λ (zs : Lasts core.ended (ν ∷ [], (κ₀, (κ₁, (κ₂, (κ₃, tt))))) (lent l₁₀ δ (gathered ys), (n, rest))). ‵ (lasts core.ended (ν ∷ [], (κ₀, (κ₁, (κ₂, (κ₃, tt))))) (lent l₁₀ δ (gathered ys), (n, rest)) zs) ⊛ (raw (fact 𝓤 (Answered (readFrom (gathered ys) 0 n) r)) ⊛ (raw (fact 𝓤 (Stepped (readFrom (gathered ys) 0 n) (zs .1 .1 .1 .1 .1 .1 .1 .1 .0))) ⊛ raw (fact 𝓤 (Typed (readFrom (gathered ys) 0 n) (zs .1 .1 .1 .1 .1 .1 .1 .1 .1 .0))))))) (id⊢ 𝓤 _) $ pick ! (λ zs.
+        use1 W (some (λ (zs : Lasts core.ended (ν ∷ [], (κ₀, (κ₁, (κ₂, (κ₃, tt))))) (lent l₁₀ δ (gathered ys), (n, rest))). ‵ (lasts core.ended (ν ∷ [], (κ₀, (κ₁, (κ₂, (κ₃, tt))))) (lent l₁₀ δ (gathered ys), (n, rest)) zs) ⊛ raw (fact 𝓤 (Said (readFrom (gathered ys) 0 n) r (zs .1 .1 .1 .1 .1 .1 .1 .1 .0) (zs .1 .1 .1 .1 .1 .1 .1 .1 .1 .0))))) (id⊢ 𝓤 _) $ pick ! (λ zs.
         split ! $
         move ! (1 ∷ []) $
-        split ! $
-        heard ! (Answered (readFrom (gathered ys) 0 n) r) (λ said.
-        split ! $
-        heard ! (Stepped (readFrom (gathered ys) 0 n) (zs .1 .1 .1 .1 .1 .1 .1 .1 .0)) (λ stepped.
-        heard ! (Typed (readFrom (gathered ys) 0 n) (zs .1 .1 .1 .1 .1 .1 .1 .1 .1 .0)) (λ typed.
+        heard ! (Said (readFrom (gathered ys) 0 n) r (zs .1 .1 .1 .1 .1 .1 .1 .1 .0) (zs .1 .1 .1 .1 .1 .1 .1 .1 .1 .0)) (λ said.
         fsplit ! $
         drop ! $
         fsplit ! $
@@ -370,7 +360,7 @@ module _ {M : Type 1} (𝓤 : URA M) (H : Heap 𝓤) (A : Atoms 𝓤) (W : Given
         move ! (1 ∷ 0 ∷ []) $
         join ! $
         keep ! (0 ∷ 10 ∷ 9 ∷ 8 ∷ 7 ∷ 6 ∷ 4 ∷ 2 ∷ []) $
-        by ! (exits r (zs .1 .1 .1 .1 .1 .1 .1 .1 .0) (zs .1 .1 .1 .1 .1 .1 .1 .1 .1 .0) (subst (λ (vs : List Val). Is B.the-row r vs) (LL.tells B.the-type B′.the-laws r (w ∷ []) is) is) (on-table r (zs .1 .1 .1 .1 .1 .1 .1 .1 .0) (zs .1 .1 .1 .1 .1 .1 .1 .1 .1 .0) said stepped typed) len₅ len₆))))))))))))))))))))))))))))))
+        by ! (exits r (zs .1 .1 .1 .1 .1 .1 .1 .1 .0) (zs .1 .1 .1 .1 .1 .1 .1 .1 .1 .0) (subst (λ (vs : List Val). Is B.the-row r vs) (LL.tells B.the-type B′.the-laws r (w ∷ []) is) is) (on-table r (zs .1 .1 .1 .1 .1 .1 .1 .1 .0) (zs .1 .1 .1 .1 .1 .1 .1 .1 .1 .0) said) len₅ len₆))))))))))))))))))))))))))))
 
 module _ {M : Type 1} (𝓤 : URA M) (H : Heap 𝓤) (A : Atoms 𝓤) (W : Given 𝓤 H A) (mem : Memory → SProp 𝓤) (run : Routine → Fun 𝓤) where
   walks : (C : Calls 𝓤 H) (Λ : Loops 𝓤 H) → FmC 𝓤 H (W .laws) C → Triple 𝓤 (C #gather) (Gather 𝓤 H A mem run) → Triple 𝓤 (C #plan-among) (Core 𝓤 H A mem run) → Walks 𝓤 H A f.ended stayed (WpFn 𝓤 H C Λ code.function) (f.clauses 𝓤 H A mem run)
