@@ -129,7 +129,7 @@ fn rounds(smoke: &mut Smoke) {
     smoke.same("sixteen members, 254 rounds", taken(16, 254), Ok(15));
 }
 
-/// docs/DIFFERENCES.md: where both agree.
+/// docs/SURPRISES.md.
 fn agreed(smoke: &mut Smoke) {
     let (int, slice_pointer) = (int32(), in_layer(17, &int32()));
     smoke.same(
