@@ -266,12 +266,20 @@ abbrev pub Ensures : {M : Type 1} (𝓤 : URA M) {R S : Type 0} → (R → S →
 Ensures 𝓤 {R} {S} ensures Then = (Q : R → S → Type 0) × (((x : R) (s : S) → ensures x s ≡ fact 𝓤 (Q x s)) × ((x : R) (s : S) → Q x s → Then x s))
 
 module _ {M : Type 1} (𝓤 : URA M) (H : Heap 𝓤) (A : Atoms 𝓤) (mem : Memory → SProp 𝓤) (run : Routine → Fun 𝓤) where
-  -- known, asked, target, level, rounds, table, store, steps, ty
+  -- where the report has no refusal, the plan that was told and written meets the third demand
   pub autoderef-demand : (κs : Lfts 5) (a : Args autoderef.signature κs) →
+      let known = now (a .0) in
+      let asked = now (a .1 .0) in
+      let target = now (a .1 .1 .0) in
+      let level = a .1 .1 .1 .0 in
+      let limit = a .1 .1 .1 .1 .0 in
+      let table = now (a .1 .1 .1 .1 .1 .0) in
+      let store = now (a .1 .1 .1 .1 .1 .1 .0) in
       Ensures 𝓤 (autoderef.clauses 𝓤 H A mem run κs a .ensures tt)
-      (λ r s. r .refusal ≡ 0 →
-      Demand (members (now (a .1 .1 .1 .1 .1 .0)) (now (a .1 .1 .1 .1 .1 .1 .0))) (layers (now (a .0))) (steps (now (a .1 .0))) (layers (now (a .1 .1 .0))) (a .1 .1 .1 .0) (a .1 .1 .1 .1 .0)
-      (planRead r (now (s .1 .1 .1 .1 .1 .1 .1 .0)) (now (s .1 .1 .1 .1 .1 .1 .1 .1 .0))))
+      (λ r s.
+      let stepsAfter = now (s .1 .1 .1 .1 .1 .1 .1 .0) in
+      let typeAfter = now (s .1 .1 .1 .1 .1 .1 .1 .1 .0) in
+      r .refusal ≡ 0 → Demand (members table store) (layers known) (steps asked) (layers target) level limit (planRead r stepsAfter typeAfter))
   autoderef-demand κs a = (
     _,
     (

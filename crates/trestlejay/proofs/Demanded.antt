@@ -71,9 +71,10 @@ module _ {M : Type 1} (𝓤 : URA M) (H : Heap 𝓤) (A : Atoms 𝓤) (mem : Mem
 
   -- where the report has no refusal, the plan that was told and written meets the third demand
   pub tj-autoderef-demand : Ensures 𝓤 (tj-autoderef.clauses 𝓤 H A mem run κs a .ensures tt)
-      (λ r s. r .refusal ≡ 0 →
-      Demand (members table store) (layers known) (steps asked) (layers target) level limit
-      (planRead r (now (s .1 .1 .1 .1 .1 .1 .1 .0)) (now (s .1 .1 .1 .1 .1 .1 .1 .1 .0))))
+      (λ r s.
+      let stepsAfter = now (s .1 .1 .1 .1 .1 .1 .1 .0) in
+      let typeAfter = now (s .1 .1 .1 .1 .1 .1 .1 .1 .0) in
+      r .refusal ≡ 0 → Demand (members table store) (layers known) (steps asked) (layers target) level limit (planRead r stepsAfter typeAfter))
   tj-autoderef-demand = (
     _,
     (
@@ -85,9 +86,10 @@ module _ {M : Type 1} (𝓤 : URA M) (H : Heap 𝓤) (A : Atoms 𝓤) (mem : Mem
 
   -- and it reports the target, or a type that is then coerced into it, or line (vii) applied
   pub tj-autoderef-reported : Ensures 𝓤 (tj-autoderef.clauses 𝓤 H A mem run κs a .ensures tt)
-      (λ r s. r .refusal ≡ 0 →
-      Reported (members table store) (layers known) (layers target) level
-      (planRead r (now (s .1 .1 .1 .1 .1 .1 .1 .0)) (now (s .1 .1 .1 .1 .1 .1 .1 .1 .0))))
+      (λ r s.
+      let stepsAfter = now (s .1 .1 .1 .1 .1 .1 .1 .0) in
+      let typeAfter = now (s .1 .1 .1 .1 .1 .1 .1 .1 .0) in
+      r .refusal ≡ 0 → Reported (members table store) (layers known) (layers target) level (planRead r stepsAfter typeAfter))
   tj-autoderef-reported = (
     _,
     (
@@ -103,12 +105,17 @@ module _ {M : Type 1} (𝓤 : URA M) (H : Heap 𝓤) (A : Atoms 𝓤) (mem : Mem
 
     -- `tj_walk`, asked with the known type, the steps that were written, the plan's flag, and the table and store, accepts
     pub tj-walk-accepts : Ensure 𝓤 (tj-autoderef.clauses 𝓤 H A mem run κs a .ensures tt) (tj-walk.clauses 𝓤 H A mem run κs′ b .ensures tt)
-        (λ r s w t. r .refusal ≡ 0 →
-        now (b .0) ≡ known → now (b .1 .0) ≡ take (4 * r .steps) (now (s .1 .1 .1 .1 .1 .1 .1 .0)) → b .1 .1 .0 ≡ r .address →
-        now (b .1 .1 .1 .0) ≡ table → now (b .1 .1 .1 .1 .0) ≡ store →
-        Accepts
-        (Hidden (members table store) (layers known) (layers target) level (planRead r (now (s .1 .1 .1 .1 .1 .1 .1 .0)) (now (s .1 .1 .1 .1 .1 .1 .1 .1 .0))))
-        r (now (s .1 .1 .1 .1 .1 .1 .1 .1 .0)) w (now (t .1 .1 .1 .1 .1 .0)) (length room))
+        (λ r s w t.
+        let walkKnown = now (b .0) in
+        let walkSteps = now (b .1 .0) in
+        let walkAddress = b .1 .1 .0 in
+        let walkTable = now (b .1 .1 .1 .0) in
+        let walkStore = now (b .1 .1 .1 .1 .0) in
+        let stepsAfter = now (s .1 .1 .1 .1 .1 .1 .1 .0) in
+        let typeAfter = now (s .1 .1 .1 .1 .1 .1 .1 .1 .0) in
+        let outAfter = now (t .1 .1 .1 .1 .1 .0) in
+        r .refusal ≡ 0 → walkKnown ≡ known → walkSteps ≡ take (4 * r .steps) stepsAfter → walkAddress ≡ r .address → walkTable ≡ table → walkStore ≡ store →
+        Accepts (Hidden (members table store) (layers known) (layers target) level (planRead r stepsAfter typeAfter)) r typeAfter w outAfter (length room))
     tj-walk-accepts = (
       _,
       (
