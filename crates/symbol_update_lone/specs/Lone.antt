@@ -9,6 +9,7 @@ use Rattle.type_layers.specs.Answer.{given, nothing, refused, next}
 use Rattle.type_checks.specs.Check.{checkOf}
 use Rattle.symbol_columns.specs.Record.{free}
 use Rattle.symbol_order.specs.Order.{inOrder}
+use Rattle.write_answer.specs.declared.answer.Answer.{Answer}
 use Rattle.symbol_columns.specs.declared.symbol.Symbol.{Symbol}
 use Rattle.write_answer.specs.Flat.{notAccepted}
 use Rattle.symbol_update.specs.Update.{updated, wordsAfter}
