@@ -6,7 +6,7 @@ use Rattle.type_bounds.specs.declared.bound.Halves.{Halves}
 use Rattle.write_answer.specs.declared.answer.Answer.{Answer}
 use Rattle.write_answer.specs.Flat.{accepted, notAccepted}
 
--- "1, and the size is written; or 0, no size, and *size is kept."
+-- "1, and the size in bytes is written; or 0, no size, and *size is kept."
 unfoldable pub flatFound : paper.Answer ℕ → Answer
 flatFound (given v) = accepted 1
 flatFound nothing = accepted 0

@@ -1,4 +1,4 @@
--- A plan as it is told and written: "Two outputs, steps and type; 14 if either is too short, and then neither is touched."
+-- A plan as it is told and written. There are two outputs, steps and type; where one is too short, neither is touched.
 use mathlib.Core.Path.{_≡_}
 use mathlib.Core.Bool.{false, cond, _||_}
 use mathlib.Core.List.{List}

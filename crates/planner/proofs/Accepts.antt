@@ -28,7 +28,7 @@ use Rattle.walker_run.proofs.Theorems.{arrives-walk}
 use Rattle.plan_report.specs.declared.report.Report.{Report}
 use Rattle.plan_report.specs.Plan.{Plan}
 use Rattle.plan_report.specs.Report.{Delivers, planRead}
-use Rattle.planner.specs.Answers.{planAnswer}
+use Rattle.planner.specs.Plans.{planAnswer}
 use Rattle.planner.specs.Demand.{Hidden, Demand}
 use Rattle.planner.specs.Accepts.{Agrees, Accepts}
 use Rattle.planner.proofs.Arrives.{few-in-all, arrives-few}

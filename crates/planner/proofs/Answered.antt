@@ -24,9 +24,8 @@ use Rattle.symbol_members.specs.Members.{members}
 use Rattle.plan_rounds.specs.Rounds.{Rounds, ended, stopped, stepsOf, takenBy, memberType, goes, turnAt, onward, inRounds}
 use Rattle.plan_report.specs.Plan.{Plan}
 use Rattle.plan_rounds.specs.Settled.{withSettling, settleRounds}
-use Rattle.planner.specs.Plan.{planOf}
+use Rattle.planner.specs.Plans.{planOf, question, planned, planAnswer}
 use Rattle.plan_report.specs.Report.{delivered, told}
-use Rattle.planner.specs.Answers.{question, planned, planAnswer}
 
 abbrev tells : {A : Type 0} → Answer A → Bool
 tells (given x) = true

@@ -28,7 +28,7 @@ use Rattle.walker_rule.proofs.Where.{at-is}
 use Rattle.plan_rounds.specs.Rounds.{ended, inRounds}
 use Rattle.plan_rounds.proofs.Finishing.{depth-few}
 use Rattle.plan_report.specs.Plan.{Plan}
-use Rattle.planner.specs.Plan.{planOf}
+use Rattle.planner.specs.Plans.{planOf}
 use Rattle.planner.specs.Demand.{Exception, Hidden, Demand}
 use Rattle.planner.specs.Reported.{Reported}
 use Rattle.planner.proofs.Rounds.{asked-append, walker-append, walks, in-order, all-taken, no-longer, no-more, all-good, few-steps}

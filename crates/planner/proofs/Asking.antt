@@ -29,12 +29,11 @@ use Rattle.symbol_members.specs.Members.{ofLayers, members}
 use Rattle.symbol_members.specs.AsCoded.{memberIn}
 use Rattle.symbol_members.proofs.Storing.{at-most, member-whole}
 use Rattle.plan_report.specs.Plan.{Plan}
-use Rattle.planner.specs.Plan.{planOf}
+use Rattle.planner.specs.Plans.{planOf, limits, question, planned, planAnswer}
 use Rattle.plan_report.specs.Report.{delivered, notGiven, told, stepsOver, typeOver}
 use Rattle.plan_report.specs.declared.report.Report.{Report}
 use Rattle.plan_report.proofs.Delivering.{told-refused, steps-stay, type-stays}
 use Rattle.plan_rounds.specs.AsCoded.{AllWhole, planInRounds}
-use Rattle.planner.specs.Answers.{limits, question, planned, planAnswer}
 
 -- the limits
 pub over : (asked : List ℕ) (rounds : ℕ) → 64 < rounds → refused 5 0 ≡ limits asked rounds

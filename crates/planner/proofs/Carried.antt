@@ -44,9 +44,8 @@ use Rattle.symbol_members.proofs.Storing.{stored-good, member-whole}
 use Rattle.plan_rounds.proofs.Finishing.{whole-few}
 use Rattle.plan_report.specs.declared.report.Report.{Report}
 use Rattle.plan_report.specs.Plan.{Plan}
-use Rattle.planner.specs.Plan.{planOf}
+use Rattle.planner.specs.Plans.{planOf, limits, planned, planAnswer}
 use Rattle.plan_report.specs.Report.{delivered, told, stepsOver, typeOver, planRead, Delivers}
-use Rattle.planner.specs.Answers.{limits, planned, planAnswer}
 use Rattle.planner.specs.Demand.{Demand}
 use Rattle.planner.specs.Reported.{Reported}
 use Rattle.plan_report.proofs.Delivering.{second-fits}

@@ -17,7 +17,7 @@ use Rattle.symbol_members.specs.Member.{Stored}
 use Rattle.plan_rounds.specs.Rounds.{Rounds, ended, stopped, inRounds}
 use Rattle.plan_rounds.specs.Settled.{withSettling, settleRounds}
 use Rattle.plan_report.specs.Plan.{Plan}
-use Rattle.planner.specs.Plan.{planOf}
+use Rattle.planner.specs.Plans.{planOf}
 
 -- the plan of the rounds' steps and a settling
 abbrev pub planned : List Step → ℕ → Settled → Plan

@@ -21,7 +21,7 @@ use Rattle.plan_rounds.specs.Rounds.{inRounds}
 use Rattle.symbol_members.specs.Member.{typed, absent}
 use Rattle.walker_rule.specs.Walker.{walker}
 use Rattle.plan_report.specs.Plan.{Plan}
-use Rattle.planner.specs.Plan.{planOf}
+use Rattle.planner.specs.Plans.{planOf}
 use Rattle.planner.specs.Demand.{Hidden}
 use Rattle.planner.proofs.Table.{leaf, of, int32, plan, planned}
 

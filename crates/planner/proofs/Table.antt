@@ -21,7 +21,7 @@ use Rattle.plan_settling.specs.Settling.{settleOtherwise, lineOf, settleBy, set
 use Rattle.symbol_members.specs.Member.{absent}
 use Rattle.plan_rounds.specs.Rounds.{inRounds}
 use Rattle.plan_report.specs.Plan.{Plan}
-use Rattle.planner.specs.Plan.{planOf}
+use Rattle.planner.specs.Plans.{planOf}
 
 abbrev pub leaf : ℕ → List Layer
 leaf k = layer k 0 0 ∷ []

@@ -1,5 +1,4 @@
-pub mod Plan
-pub mod Answers
+pub mod Plans
 pub mod Demand
 pub mod Reported
 pub mod Accepts

@@ -4,7 +4,7 @@ use symbol_columns::Column;
 use symbol_columns::Symbol;
 use symbol_lent::gather;
 ghost use Rattle.plan_report.specs.Report as report;
-ghost use Rattle.planner.specs.Answers as answers;
+ghost use Rattle.planner.specs.Plans as answers;
 
 // Plans the asked steps from the known type, and writes the plan's steps and its reported type.
 pub fn autoderef<'a>(

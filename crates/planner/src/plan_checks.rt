@@ -16,7 +16,7 @@ ghost use Rattle.type_layers.specs.Answer.{ofChecked};
 ghost use Rattle.type_layers.specs.AsCoded.{Whole};
 ghost use Rattle.symbol_columns.specs.AsCoded.{readFrom};
 ghost use Rattle.plan_report.specs.Report as report;
-ghost use Rattle.planner.specs.Answers as answers;
+ghost use Rattle.planner.specs.Plans as answers;
 
 fn check_limits(asked: &[u64], rounds: u64) -> Checked
     ensures { λ r. ⌜ ofChecked r ≡ answers.limits (now (asked .entry)) rounds ⌝ }

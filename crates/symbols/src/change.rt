@@ -5,7 +5,8 @@ use symbol_lent::gather;
 use symbol_operations::Operation;
 use write_answer::Answer;
 ghost use Rattle.symbol_operations.specs.Operations.{ofOperation};
-ghost use Rattle.symbol_change.specs.Change as rules;
+ghost use Rattle.symbol_change.specs.Change.{Becomes};
+ghost use Rattle.symbols.specs.Symbols as symbols;
 
 // Changes a lent table and its store. A type has no mark and poison no offered words: the one that is not asked for is
 // not looked at.
@@ -19,8 +20,8 @@ pub fn change_symbol(
     mark: u64,
     offered: &[u64],
 ) -> Answer
-    ensures { λ r. ⌜ rules.Becomes
-        (rules.outcome (ofOperation operation) id authority place mark (now (offered .entry)) (now (table .entry)) (now (store .entry)))
+    ensures { λ r. ⌜ Becomes
+        (symbols.change (ofOperation operation) id authority place mark (now (offered .entry)) (now (table .entry)) (now (store .entry)))
         r (now (table .exit)) (now (store .exit)) ⌝ }
 {
     let mut flat = [0u64; Column::WORDS];

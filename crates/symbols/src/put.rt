@@ -6,11 +6,8 @@ use symbol_operations::Operation;
 use symbol_operations::forward;
 use symbol_operations::put;
 use write_answer::Answer;
-ghost use mathlib.Core.List.{[]};
-ghost use Rattle.symbol_operations.specs.Act as act;
-ghost use Rattle.symbol_operations.specs.Operation.{acts};
-ghost use Rattle.symbol_operations.specs.Operations as operations;
-ghost use Rattle.symbol_change.specs.Change as rules;
+ghost use Rattle.symbol_change.specs.Change.{Becomes};
+ghost use Rattle.symbols.specs.Symbols as symbols;
 
 // Puts nothing, poison or a type under a name.
 pub fn put_symbol(
@@ -23,8 +20,8 @@ pub fn put_symbol(
     mark: u64,
     offered: &[u64],
 ) -> Answer
-    ensures { λ r. ⌜ rules.Becomes
-        (rules.outcome (operations.put offer) id authority place mark (now (offered .entry)) (now (table .entry)) (now (store .entry)))
+    ensures { λ r. ⌜ Becomes
+        (symbols.put offer id authority place mark (now (offered .entry)) (now (table .entry)) (now (store .entry)))
         r (now (table .exit)) (now (store .exit)) ⌝ }
 {
     change_symbol(
@@ -48,8 +45,8 @@ pub fn poison_symbol(
     place: u64,
     mark: u64,
 ) -> Answer
-    ensures { λ r. ⌜ rules.Becomes
-        (rules.outcome (acts act.putPoison) id authority place mark [] (now (table .entry)) (now (store .entry)))
+    ensures { λ r. ⌜ Becomes
+        (symbols.poison id authority place mark (now (table .entry)) (now (store .entry)))
         r (now (table .exit)) (now (store .exit)) ⌝ }
 {
     let none = [0u64; 1];
@@ -76,9 +73,8 @@ pub fn forward_declare_symbol(
     mark: u64,
     offered: &[u64],
 ) -> Answer
-    ensures { λ r. ⌜ rules.Becomes
-        (rules.outcome (operations.forward declared) id authority place mark
-        (now (offered .entry)) (now (table .entry)) (now (store .entry)))
+    ensures { λ r. ⌜ Becomes
+        (symbols.forwardDeclare declared id authority place mark (now (offered .entry)) (now (table .entry)) (now (store .entry)))
         r (now (table .exit)) (now (store .exit)) ⌝ }
 {
     change_symbol(

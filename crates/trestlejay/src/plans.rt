@@ -4,7 +4,7 @@ use symbol_columns::Symbol;
 use walker_run::walk;
 use write_answer::Answer;
 ghost use Rattle.plan_report.specs.Report as report;
-ghost use Rattle.planner.specs.Answers as answers;
+ghost use Rattle.planner.specs.Plans as answers;
 ghost use Rattle.walker_run.specs.Walked as walks;
 ghost use Rattle.walker_arrival.specs.Arrived.{HandsOut};
 

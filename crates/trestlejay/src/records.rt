@@ -7,11 +7,11 @@ use symbols::poison_symbol;
 use symbols::put_symbol;
 use write_answer::Answer;
 ghost use mathlib.Core.List.{[]};
-ghost use Rattle.symbol_update_lone.specs.Lone as rules;
 ghost use Rattle.symbol_operations.specs.Act as act;
 ghost use Rattle.symbol_operations.specs.Operation.{putNothing, acts};
 ghost use Rattle.symbol_change.specs.Change as changes;
 ghost use Rattle.symbol_get.specs.Get as gets;
+ghost use Rattle.symbols.specs.Symbols as symbols;
 
 #[no_mangle]
 pub extern "C" fn tj_update_symbol(
@@ -22,7 +22,7 @@ pub extern "C" fn tj_update_symbol(
     place: u64,
     offered: &[u64],
 ) -> Answer
-    ensures { λ r. ⌜ rules.LoneBecomes
+    ensures { λ r. ⌜ symbols.UpdatesAlone
         (now (symbol .entry)) (now (words .entry)) id authority place (now (offered .entry))
         r (now (symbol .exit)) (now (words .exit)) ⌝ }
 {
@@ -38,7 +38,7 @@ pub extern "C" fn tj_put_nothing(
     place: u64,
 ) -> Answer
     ensures { λ r. ⌜ changes.Becomes
-        (changes.outcome putNothing id authority place 0 [] (now (table .entry)) (now (store .entry)))
+        (symbols.change putNothing id authority place 0 [] (now (table .entry)) (now (store .entry)))
         r (now (table .exit)) (now (store .exit)) ⌝ }
 {
     let none = [0u64; 1];
@@ -64,7 +64,7 @@ pub extern "C" fn tj_put_type(
     offered: &[u64],
 ) -> Answer
     ensures { λ r. ⌜ changes.Becomes
-        (changes.outcome (acts act.putType) id authority place 0 (now (offered .entry)) (now (table .entry)) (now (store .entry)))
+        (symbols.change (acts act.putType) id authority place 0 (now (offered .entry)) (now (table .entry)) (now (store .entry)))
         r (now (table .exit)) (now (store .exit)) ⌝ }
 {
     put_symbol(table, store, Offer::Type, id, authority, place, 0, offered)
@@ -80,7 +80,7 @@ pub extern "C" fn tj_put_poison(
     mark: u64,
 ) -> Answer
     ensures { λ r. ⌜ changes.Becomes
-        (changes.outcome (acts act.putPoison) id authority place mark [] (now (table .entry)) (now (store .entry)))
+        (symbols.poison id authority place mark (now (table .entry)) (now (store .entry)))
         r (now (table .exit)) (now (store .exit)) ⌝ }
 {
     poison_symbol(table, store, id, authority, place, mark)
@@ -96,7 +96,7 @@ pub extern "C" fn tj_forward_declare_type(
     offered: &[u64],
 ) -> Answer
     ensures { λ r. ⌜ changes.Becomes
-        (changes.outcome (acts act.forwardType) id authority place 0 (now (offered .entry)) (now (table .entry)) (now (store .entry)))
+        (symbols.change (acts act.forwardType) id authority place 0 (now (offered .entry)) (now (table .entry)) (now (store .entry)))
         r (now (table .exit)) (now (store .exit)) ⌝ }
 {
     forward_declare_symbol(
@@ -121,7 +121,7 @@ pub extern "C" fn tj_forward_declare_poison(
     mark: u64,
 ) -> Answer
     ensures { λ r. ⌜ changes.Becomes
-        (changes.outcome (acts act.forwardPoison) id authority place mark [] (now (table .entry)) (now (store .entry)))
+        (symbols.change (acts act.forwardPoison) id authority place mark [] (now (table .entry)) (now (store .entry)))
         r (now (table .exit)) (now (store .exit)) ⌝ }
 {
     let none = [0u64; 1];
@@ -145,7 +145,7 @@ pub extern "C" fn tj_get_symbol(
     authority: bool,
     found: &mut u64,
 ) -> Answer
-    ensures { λ r. ⌜ gets.Tells (gets.got id authority (now (table .entry)) (now (store .entry)))
+    ensures { λ r. ⌜ gets.Tells (symbols.get id authority (now (table .entry)) (now (store .entry)))
         r (now (found .entry)) (now (found .exit)) ⌝ }
 {
     get_symbol(table, store, id, authority, found)

@@ -50,7 +50,7 @@ use Rattle.symbol_lent.proofs.gather.Met as gather-thm
 use Rattle.plan_report.specs.declared.report.Report.{Report}
 use Rattle.plan_report.specs.Plan.{Plan}
 use Rattle.plan_report.specs.Report.{Hands}
-use Rattle.planner.specs.Answers.{planAnswer}
+use Rattle.planner.specs.Plans.{planAnswer}
 use Rattle.planner.proofs.Asking.{plan-same}
 use Rattle.plan_report.proofs.report.Report as B
 use Rattle.plan_report.proofs.report.Report.Laws as B′
