@@ -2,7 +2,7 @@
 -- Assumes nothing.
 use mathlib.Core.Path.{_≡_}
 use Prim.Native.Nat.{ℕ}
-use Rattle.type_part_starts.specs.PartStarts.{ofStart}
+use Rattle.type_part_starts.specs.AsCoded.{ofStart}
 use Rattle.type_part_starts.specs.declared.part_starts.Start.{Start}
 use Rattle.type_size_and_depth.specs.AsCoded.{ofSize, ofCount}
 use Rattle.type_size_and_depth.specs.declared.answers.Size.{Size}

@@ -6,7 +6,7 @@ use write_answer::Answer;
 use write_answer::accepted;
 use write_answer::refused;
 ghost use mathlib.Core.Path.{_≡_};
-ghost use Rattle.type_part_starts.specs.PartStarts.{ofStart};
+ghost use Rattle.type_part_starts.specs.AsCoded.{ofStart};
 ghost use Rattle.type_size_and_depth.specs.AsCoded.{ofSize, ofCount};
 ghost use Rattle.type_bounds.specs.AsCoded.{ofBound};
 ghost use Rattle.write_answer.specs.Flat.{flat};

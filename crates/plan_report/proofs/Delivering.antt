@@ -20,7 +20,8 @@ use Rattle.plan_steps.proofs.Words.{words-length, words-whole}
 use Rattle.plan_settling.specs.Settling.{pointer}
 use Rattle.plan_ending.specs.declared.ending.Ending.{Ending}
 use Rattle.plan_report.specs.declared.report.Report.{Report}
-use Rattle.plan_report.specs.Plan.{Plan, planned}
+use Rattle.plan_report.specs.Plan.{Plan}
+use Rattle.plan_report.specs.AsCoded.{planOfWords}
 use Rattle.plan_report.specs.Report.{delivered, notGiven, told, stepsOver, typeOver, Hands}
 
 pub refuses : (d : Answer Plan) (n p : ℕ) (s t : List ℕ) → d ≡ refused n p → Hands d (notGiven n p) s s t t
@@ -75,7 +76,7 @@ module _ (b : List ℕ) (m taken : ℕ) (e : Ending) (body s t : List ℕ) (room
   type = replicate (e .lead) pointer ++ layers body
 
   abbrev outcome : Answer Plan
-  outcome = delivered (length s) (length t) (planned ws taken e body)
+  outcome = delivered (length s) (length t) (planOfWords ws taken e body)
 
   step-count : length ws ≡ 4 * m
   step-count = length-take-le (4 * m) b room
@@ -93,7 +94,7 @@ module _ (b : List ℕ) (m taken : ℕ) (e : Ending) (body s t : List ℕ) (room
   type-count = rw (type-words, length-append, pointers-length) refl
 
   pub too-wide : 48 < 3 * e .lead + length body → Hands outcome (notGiven 15 0) s s t t
-  unfolding planned delivered
+  unfolding planOfWords delivered
   too-wide h =
       let n : 16 < length type = omega (arith, type-count, spelled-length type) in
       refuses outcome 15 0 s t (rw (lt-ltb 16 (length type) n))
@@ -103,12 +104,12 @@ module _ (b : List ℕ) (m taken : ℕ) (e : Ending) (body s t : List ℕ) (room
     narrow-type = omega (arith, type-count, spelled-length type)
 
     pub too-short : (ltb (length s) (4 * m) || ltb (length t) (3 * e .lead + length body)) ≡ true → Hands outcome (notGiven 14 0) s s t t
-    unfolding planned delivered
+    unfolding planOfWords delivered
     too-short f = refuses outcome 14 0 s t (rw (le-ltb 16 (length type) narrow-type, step-words, step-count, type-count, f))
 
     module _ (f : (ltb (length s) (4 * m) || ltb (length t) (3 * e .lead + length body)) ≡ false) where
       pub fit : outcome ≡ given (record { steps = steps ws; taken = taken; type = type; address = e .address; coerced = e .coerced })
-      unfolding planned delivered
+      unfolding planOfWords delivered
       fit = rw (le-ltb 16 (length type) narrow-type, step-words, step-count, type-count, f)
 
       pub wrote : (f₁ x y z : List ℕ) → 3 * e .lead + length body ≤ length t → f₁ ≡ spelled (replicate (e .lead) pointer) →

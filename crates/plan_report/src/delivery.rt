@@ -9,7 +9,7 @@ ghost use Prim.Native.Nat.{_*_, _≤_};
 ghost use lib.ListN.{length, take};
 ghost use Rattle.type_layers.specs.AsCoded.{Whole};
 ghost use Rattle.plan_report.specs.Report as report;
-ghost use Rattle.plan_report.specs.Plan.{planned};
+ghost use Rattle.plan_report.specs.AsCoded.{planOfWords};
 
 pub fn refuse(number: u64, place: u64) -> Report
     ensures { λ r. ⌜ r ≡ report.notGiven number place ⌝ }
@@ -37,7 +37,7 @@ pub fn deliver(
 ) -> Report
     requires { ⌜ (4 * m ≤ length (now buf)) × Whole (now body) × (e .lead ≤ 255) ⌝ }
     ensures { λ r. ⌜ report.Delivers
-        (λ room wide. report.delivered room wide (planned (take (4 * m) (now (buf .entry))) taken e (now (body .entry))))
+        (λ room wide. report.delivered room wide (planOfWords (take (4 * m) (now (buf .entry))) taken e (now (body .entry))))
         r (now (steps .entry)) (now (steps .exit)) (now (ty .entry)) (now (ty .exit)) ⌝ }
 {
     let lead = 3 * e.lead as usize;

@@ -11,7 +11,7 @@ use Rattle.type_numbers.specs.Mark as of-mark
 use Rattle.plan_steps.specs.Steps.{Step, step, stepWords}
 use Rattle.plan_steps.specs.AsCoded.{putStep}
 use Rattle.plan_steps.proofs.Words.{words-append, put-length}
-use Rattle.plan_turn.specs.Turn.{ofTurn}
+use Rattle.plan_turn.specs.AsCoded.{ofTurn}
 use Rattle.plan_turn.specs.declared.turn.Turn.{Turn}
 use Rattle.plan_turn.specs.declared.turn.Turn.the-variants.{Stuck, Auto, Element, Desliced, Member}
 use Rattle.plan_rounds.proofs.Pushing.{Pushed, one}

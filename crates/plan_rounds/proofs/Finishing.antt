@@ -19,13 +19,14 @@ use Rattle.plan_steps.specs.Steps.{Step, step, steps, stepWords}
 use Rattle.plan_steps.proofs.Words.{words-append, words-back, words-whole}
 use Rattle.plan_settling.specs.declared.settling.Settling.{Settling}
 use Rattle.plan_settling.specs.declared.settling.Settling.the-variants as settling
-use Rattle.plan_settling.specs.Settling.{settleBy, ofSettling, Settles}
+use Rattle.plan_settling.specs.Settling.{settleBy}
+use Rattle.plan_settling.specs.AsCoded.{ofSettling, Settles}
 use Rattle.plan_ending.specs.declared.ending.Ending.{Ending}
 use Rattle.plan_rounds.specs.Settled.{withSettling}
 use Rattle.plan_report.specs.Report.{delivered}
 use Rattle.plan_rounds.specs.AsCoded.{finished}
 use Rattle.plan_ending.specs.AsCoded.{endingOf, bodyOf}
-use Rattle.plan_report.specs.Plan.{planned}
+use Rattle.plan_report.specs.AsCoded.{planOfWords}
 use Rattle.plan_rounds.proofs.Pushing.{Pushed}
 
 -- a type has no more Pointers than layers
@@ -111,8 +112,8 @@ module _ (cur target ws : List ℕ) (k n : ℕ) where
 
   gives-so : (s : Settling) (v : List ℕ) → endingOf s (pointerDepth c) n .refused ≡ false →
       steps v ≡ steps ws ++ replicate (endingOf s (pointerDepth c) n .extra) (step (endingOf s (pointerDepth c) n .kind) 0 0 0) →
-      withSettling (steps ws) k (ofSettling s c t n) ≡ planned v k (endingOf s (pointerDepth c) n) (bodyOf s cur target)
-  unfolding planned fullyDereferenced settleBy
+      withSettling (steps ws) k (ofSettling s c t n) ≡ planOfWords v k (endingOf s (pointerDepth c) n) (bodyOf s cur target)
+  unfolding planOfWords fullyDereferenced settleBy
   gives-so settling.Identical v h e = rw e refl
   gives-so settling.Viewed v h e = rw e refl
   gives-so settling.Coerced v h e = rw e refl
@@ -133,7 +134,7 @@ module _ (cur target : List ℕ) (k n room wide : ℕ) (s : Settling) (p : ℕ) 
   stops ws h = rw (← by-line .1, ending, refuses-so cur target ws k n s (rw ending at h)) refl
 
   pub goes-out : (b b′ body : List ℕ) (i m : ℕ) → e .refused ≡ false → 4 * i ≤ length b → Pushed b i b′ m (replicate (e .extra) (step (e .kind) 0 0 0)) → body ≡ bodyOf s cur target →
-      finished (take (4 * i) b) k (layers cur) (layers target) n room wide ≡ delivered room wide (planned (take (4 * m) b′) k e body)
+      finished (take (4 * i) b) k (layers cur) (layers target) n room wide ≡ delivered room wide (planOfWords (take (4 * m) b′) k e body)
   unfolding finished
   goes-out b b′ body i m h l q f =
       let w : length (take (4 * i) b) % 4 ≡ 0 = rw (length-take-le (4 * i) b l) (omega arith) in

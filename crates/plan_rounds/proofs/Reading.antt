@@ -16,7 +16,7 @@ use Rattle.type_wellformed.specs.WellFormed.{wellFormed}
 use Rattle.plan_steps.specs.AsCoded.{stepAt}
 use Rattle.plan_turn.specs.Round.{turn}
 use Rattle.plan_turn.specs.Turn as paper
-use Rattle.plan_turn.specs.Turn.{ofTurn}
+use Rattle.plan_turn.specs.AsCoded.{ofTurn}
 use Rattle.plan_turn.specs.declared.turn.Turn.{Turn}
 use Rattle.plan_turn.specs.declared.turn.Turn.the-variants.{Stuck, Auto, Element, Desliced, Member}
 use Rattle.plan_rounds.specs.Rounds.{turnAt}

@@ -1,4 +1,4 @@
--- The plan of the rounds: it is settled where they ended, and delivered where the outputs have room.
+-- The plan of the rounds: it is settled where they ended.
 use mathlib.Core.List.{List, _++_}
 use Prim.Native.Nat.{ℕ}
 use Rattle.type_layers.specs.Layers.{Layer}

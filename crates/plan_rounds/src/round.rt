@@ -14,7 +14,7 @@ ghost use lib.ListN.{length, take, getD};
 ghost use Rattle.type_layers.specs.Layers.{layers};
 ghost use Rattle.plan_steps.specs.Steps.{stepWords};
 ghost use Rattle.plan_steps.specs.AsCoded.{stepAt};
-ghost use Rattle.plan_turn.specs.Turn.{ofTurn};
+ghost use Rattle.plan_turn.specs.AsCoded.{ofTurn};
 ghost use Rattle.symbol_members.specs.AsCoded.{memberIn};
 ghost use Rattle.plan_rounds.specs.Rounds.{stepsOf, takenBy, turnAt};
 ghost use Rattle.plan_rounds.specs.AsCoded as rounds;

@@ -13,7 +13,8 @@ use Rattle.type_size_and_depth.specs.Depth.{pointerDepth}
 use Rattle.relation_equals.specs.Equals.{identical}
 use Rattle.relation_coerces.specs.Coerces.{coerces, addressCoerces}
 use Rattle.plan_settling.specs.Line as line
-use Rattle.plan_settling.specs.Settling.{settleOtherwise, lineOf, settleBy, settle, lineBy, ofSettling, Settles, Otherwise}
+use Rattle.plan_settling.specs.Settling.{settleOtherwise, lineOf, settleBy, settle}
+use Rattle.plan_settling.specs.AsCoded.{lineBy, ofSettling, Settles, Otherwise}
 use Rattle.plan_settling.specs.declared.settling.Settling.{Settling}
 use Rattle.plan_settling.specs.declared.settling.Settling.the-variants.{Identical, Viewed, Coerced, SlicePointer, PointedTo, AddressCoerced, Addressed, Dereferenced, Refused}
 

@@ -10,7 +10,8 @@ use Rattle.type_layers.proofs.Single.{Single}
 use denote.Ref.{now}
 use Rattle.plan_settling.specs.Line as line
 use Rattle.plan_settling.specs.Line.{Line}
-use Rattle.plan_settling.specs.Settling.{Settled, lineOf, settle, lineBy, ofSettling, Settles}
+use Rattle.plan_settling.specs.Settling.{Settled, lineOf, settle}
+use Rattle.plan_settling.specs.AsCoded.{lineBy, ofSettling, Settles}
 use Rattle.plan_settling.specs.declared.settling.Settling.{Settling}
 use Rattle.plan_settling.specs.declared.settling.Settling.the-variants as settling
 use Rattle.plan_settling.proofs.settling.settle.Kinds.{ps, r}

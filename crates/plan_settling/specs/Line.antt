@@ -1,4 +1,5 @@
 -- The lines of the settling, (i) to (vii).
+
 pub data Line : Type 0 where
   i : Line
   ii : Line

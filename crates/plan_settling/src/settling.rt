@@ -8,7 +8,7 @@ use type_numbers::Refusal;
 use type_size_and_depth::depth;
 ghost use mathlib.Core.Path.{_≡_};
 ghost use Rattle.type_layers.specs.Layers.{layers};
-ghost use Rattle.plan_settling.specs.Settling as rules;
+ghost use Rattle.plan_settling.specs.AsCoded as rules;
 
 // How a plan is settled: the line that applies, and of the last line what it comes to.
 pub enum Settling {

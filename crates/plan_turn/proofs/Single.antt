@@ -2,7 +2,8 @@
 -- Assumes nothing.
 use mathlib.Core.Path.{_≡_, refl, sym, ap, _∙_}
 use Rattle.type_layers.proofs.Single.{Single}
-use Rattle.plan_turn.specs.Turn.{Turn, Stuck, Auto, Element, Desliced, Member, ofTurn}
+use Rattle.plan_turn.specs.Turn.{Turn, Stuck, Auto, Element, Desliced, Member}
+use Rattle.plan_turn.specs.AsCoded.{ofTurn}
 use Rattle.plan_turn.specs.declared.turn.Turn as code
 use Rattle.plan_turn.specs.declared.turn.Turn.the-variants as coded
 use Rattle.plan_turn.proofs.decide_turn.turn_of.Kinds as turn-of-kinds

@@ -1,2 +1,3 @@
 pub mod Turn
 pub mod Round
+pub mod AsCoded

@@ -1,7 +1,5 @@
 -- What one round decides, in the paper's terms.
 use Prim.Native.Nat.{ℕ}
-use Rattle.plan_turn.specs.declared.turn.Turn as code
-use Rattle.plan_turn.specs.declared.turn.Turn.the-variants as coded
 
 pub data Turn : Type 0 where
   -- "Else 8."
@@ -14,11 +12,3 @@ pub data Turn : Type 0 where
   Desliced : ℕ → Turn
   -- "Member on Struct or Word: the table's type."
   Member : Turn
-
--- What each case of the code is.
-unfoldable pub ofTurn : code.Turn → Turn
-ofTurn coded.Stuck = Stuck
-ofTurn (coded.Auto k) = Auto k
-ofTurn (coded.Element m l) = Element m l
-ofTurn (coded.Desliced m) = Desliced m
-ofTurn coded.Member = Member

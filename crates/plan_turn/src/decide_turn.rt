@@ -3,7 +3,7 @@ use type_numbers::Kind;
 use type_numbers::Mark;
 use type_numbers::StepKind;
 ghost use mathlib.Core.Path.{_≡_};
-ghost use Rattle.plan_turn.specs.Turn.{ofTurn};
+ghost use Rattle.plan_turn.specs.AsCoded.{ofTurn};
 ghost use Rattle.plan_turn.specs.Round as rules;
 
 // On a Pointer or a View, of the kind inside.

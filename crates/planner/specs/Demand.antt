@@ -47,7 +47,8 @@ pub record Hidden (stored : ℕ → Stored) (known target : List Layer) (depth :
   pub type : plan .type ≡ drop (references (holds .c)) (holds .c)
   pub plain : plan .address ≡ false
 
--- "Let the known, target and member types be well formed." The planner refuses all others.
+-- "Let the known, target and member types be well formed." The planner refuses a known or target type that is not, and a
+-- member's when a round meets it.
 pub record Demand (stored : ℕ → Stored) (known : List Layer) (q : List Step) (target : List Layer) (depth limit : ℕ) (plan : Plan) : Type 0 where
   -- "In each plan given, the element and member steps are, an element's endless mark aside, the asked ones in order from the
   -- first,": as many of them as the plan says that it took.

@@ -7,7 +7,8 @@ use native.Mathlib.Omega.{arith}
 use native.Mathlib.Nat.{zero-add}
 use lib.ListN.{length, length-append}
 use Rattle.sheet_contents.specs.Contents.{types, typeAt}
-use Rattle.sheet_text.specs.AsCoded.{putAt, decimal}
+use Rattle.sheet_text.specs.AsCoded.{putAt}
+use Rattle.sheet_text.specs.Decimal.{decimal}
 use Rattle.sheet_pairs.specs.Text.{answers, line, row, rows, header, refusedText, refusal}
 use Rattle.sheet_text.proofs.Putting.{Put, Did, then, fitted, room, digits-few}
 use Rattle.sheet_pairs.proofs.Rows.{Going, length-each, going-begin, going-same, going-end, going-room, going-on}

@@ -2,7 +2,7 @@
 use mathlib.Core.Bool.{Bool, cond}
 use mathlib.Core.List.{List, [], _∷_, _++_}
 use Prim.Native.Nat.{ℕ, _+_}
-use Rattle.sheet_text.specs.AsCoded.{decimal}
+use Rattle.sheet_text.specs.Decimal.{decimal}
 use Rattle.type_layers.specs.Answer.{Answer, given, nothing, refused}
 use Rattle.type_layers.specs.Layers.{layers}
 use Rattle.relation_equals.specs.Equals.{equals}

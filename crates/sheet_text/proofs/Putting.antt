@@ -11,7 +11,8 @@ use lib.Dec.{ltb}
 use lib.ListN.{length, take, drop, set, getD, length-append, length-drop, take-append-drop}
 use lib.Seq.{take-at, drop-at, drop-drop, take-length, length-take-le, paste, paste-zero, paste-suc, length-paste}
 use borrow.Author.Tests.{lt-ltb, le-ltb, le-leb, lt-leb}
-use Rattle.sheet_text.specs.AsCoded.{putAt, fits, putIn, behind, decimal}
+use Rattle.sheet_text.specs.AsCoded.{putAt, fits, putIn, behind}
+use Rattle.sheet_text.specs.Decimal.{decimal}
 
 -- a run t was put at a place of l: the place behind it, and the text now
 abbrev pub Put : ℕ → List ℕ → List ℕ → ℕ → List ℕ → Type 0

@@ -1,8 +1,8 @@
--- No rule, but what contracts of the code need: bytes put into a lent text, and a number in decimal.
+-- No rule, but what contracts of the code need: bytes put into a lent text.
 use mathlib.Core.Bool.{Bool, cond}
-use mathlib.Core.List.{List, [], _∷_, _++_}
-use Prim.Native.Nat.{ℕ, _+_, _/_, _%_}
-use lib.Dec.{leb, ltb}
+use mathlib.Core.List.{List, _++_}
+use Prim.Native.Nat.{ℕ, _+_}
+use lib.Dec.{leb}
 use lib.ListN.{length, take, drop}
 
 -- Bytes put from a place on; the rest is kept.
@@ -18,7 +18,3 @@ putIn at t l = cond (fits at t l) (putAt at t l) l
 
 unfoldable pub behind : ℕ → List ℕ → List ℕ → ℕ
 behind at t l = cond (fits at t l) (at + length t) at
-
--- A number below 100 in decimal; of others nothing.
-unfoldable pub decimal : ℕ → List ℕ
-decimal n = cond (ltb n 10) ((48 + n) ∷ []) (cond (ltb n 100) ((48 + n / 10) ∷ (48 + n % 10) ∷ []) [])

@@ -1,5 +1,6 @@
 ghost use mathlib.Core.Path.{_≡_};
-ghost use Rattle.sheet_text.specs.AsCoded.{putIn, behind, decimal};
+ghost use Rattle.sheet_text.specs.AsCoded.{putIn, behind};
+ghost use Rattle.sheet_text.specs.Decimal.{decimal};
 
 // Puts bytes at a place of a lent text; and the place behind them. Nothing where they do not fit.
 pub fn put(out: &mut [u8], at: usize, bytes: &[u8]) -> usize

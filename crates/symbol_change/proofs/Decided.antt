@@ -19,12 +19,13 @@ use Rattle.symbol_update.specs.declared.update_record.Updated.{Updated}
 use Rattle.symbol_operations.specs.Act.{Act}
 use Rattle.symbol_operations.specs.Operation as operation
 use Rattle.symbol_operations.specs.Operation.{acts}
-use Rattle.symbol_operations.specs.Operations.{ofOperation, ofAsked}
+use Rattle.symbol_operations.specs.AsCoded.{ofOperation, ofAsked}
 use Rattle.symbol_operations.specs.declared.operation.Operation.{Operation}
 use Rattle.symbol_operations.specs.declared.operation.Asked.{Asked}
 use Rattle.symbol_operations.specs.declared.operation.Asked.the-variants as asked
 use Rattle.symbol_slot.specs.Way as way
-use Rattle.symbol_slot.specs.Slot.{wayOf, ofWay}
+use Rattle.symbol_slot.specs.Slot.{wayOf}
+use Rattle.symbol_slot.specs.AsCoded.{ofWay}
 use Rattle.symbol_slot.specs.declared.slot.Way.{Way}
 use Rattle.symbol_slot.specs.declared.slot.Way.the-variants as code
 use Rattle.symbol_slot.proofs.Decided.{Within, found-in, found-has, new-in}

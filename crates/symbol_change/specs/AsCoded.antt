@@ -22,7 +22,7 @@ use Rattle.symbol_record.specs.AsCoded.{seen}
 use Rattle.symbol_change.specs.declared.change.Change.{Change}
 use Rattle.symbol_change.specs.Change.{inserts, nothingPut, outcome}
 
--- The same as the code's core hands it back: the slot and its new record; past the last slot, none.
+-- An outcome as the code's core hands it back: the slot and its new record; past the last slot, none.
 abbrev pub nowhere : ℕ → Answer → Change
 nowhere n a = record { slot = n; symbol = vacant; answer = a }
 

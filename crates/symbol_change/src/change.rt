@@ -21,7 +21,7 @@ use write_answer::refused;
 ghost use mathlib.Core.Path.{_≡_};
 ghost use Rattle.symbol_columns.specs.AsCoded.{readFrom};
 ghost use Rattle.symbol_operations.specs.Operation.{acts};
-ghost use Rattle.symbol_operations.specs.Operations.{ofAct, ofOperation};
+ghost use Rattle.symbol_operations.specs.AsCoded.{ofAct, ofOperation};
 ghost use Rattle.symbol_change.specs.Change as rules;
 ghost use Rattle.symbol_change.specs.AsCoded as as-coded;
 

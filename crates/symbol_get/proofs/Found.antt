@@ -18,7 +18,8 @@ use Rattle.symbol_columns.proofs.Reading.{length-read, row-found}
 use Rattle.symbol_search.proofs.Searching.{slot-has}
 use Rattle.symbol_order.proofs.Ordered.{ordered, few-rows, slot-there}
 use Rattle.write_answer.specs.declared.answer.Answer.{Answer}
-use Rattle.symbol_get.specs.Get.{markFor, got, told, foundAfter, typeIn, typeOf, ofGot}
+use Rattle.symbol_get.specs.Get.{markFor, got, told, foundAfter, typeIn, typeOf}
+use Rattle.symbol_get.specs.AsCoded.{ofGot}
 use Rattle.symbol_get.specs.Got as got′
 use Rattle.symbol_get.specs.Got.{Got}
 use Rattle.symbol_get.specs.declared.get.Got as coded

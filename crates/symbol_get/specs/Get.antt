@@ -16,8 +16,6 @@ use Rattle.write_answer.specs.declared.answer.Answer.{Answer}
 use Rattle.write_answer.specs.Flat.{accepted, notAccepted}
 use Rattle.symbol_get.specs.Got as got′
 use Rattle.symbol_get.specs.Got.{Got}
-use Rattle.symbol_get.specs.declared.get.Got as coded
-use Rattle.symbol_get.specs.declared.get.Got.the-variants as code
 
 -- "(mark 0, plain poison, when the asking name isn't authoritative)"
 abbrev pub markFor : Bool → ℕ → ℕ
@@ -59,10 +57,3 @@ typeIn (got′.refused n p) table store = []
 
 unfoldable pub typeOf : ℕ → List Symbol → List ℕ → List ℕ
 typeOf id table store = typeIn (got id true table store) table store
-
--- What each of the code's answers is.
-abbrev pub ofGot : coded.Got → Got
-ofGot code.Absent = got′.absent
-ofGot (code.Typed k) = got′.typed k
-ofGot (code.Poisoned m) = got′.poisoned m
-ofGot (code.Refused n p) = got′.refused n p

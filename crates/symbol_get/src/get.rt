@@ -12,6 +12,7 @@ use write_answer::refused;
 ghost use mathlib.Core.Path.{_≡_};
 ghost use Rattle.symbol_columns.specs.AsCoded.{readFrom};
 ghost use Rattle.symbol_get.specs.Get as rules;
+ghost use Rattle.symbol_get.specs.AsCoded as as-coded;
 
 // What stands under a name: nothing, a type in a slot, or poison with its mark.
 pub enum Got {
@@ -28,7 +29,7 @@ fn mark_for(authority: bool, mark: u64) -> u64
 }
 
 fn look(flat: &Columns, n: usize, store: &[u64], id: u32, authority: bool) -> Got
-    ensures { λ r. ⌜ rules.ofGot r ≡ rules.got id authority (readFrom (now (flat .entry)) 0 n) (now (store .entry)) ⌝ }
+    ensures { λ r. ⌜ as-coded.ofGot r ≡ rules.got id authority (readFrom (now (flat .entry)) 0 n) (now (store .entry)) ⌝ }
 {
     if !in_order(flat, n, store) {
         return Got::Refused {
@@ -50,8 +51,8 @@ fn look(flat: &Columns, n: usize, store: &[u64], id: u32, authority: bool) -> Go
 
 // The slot or the mark goes where it was lent; without one, what stood there stays.
 fn tell(got: Got, found: &mut u64) -> Answer
-    ensures answer { λ r. ⌜ r ≡ rules.told (rules.ofGot got) ⌝ }
-    ensures written { λ _. ⌜ now (found .exit) ≡ rules.foundAfter (rules.ofGot got) (now (found .entry)) ⌝ }
+    ensures answer { λ r. ⌜ r ≡ rules.told (as-coded.ofGot got) ⌝ }
+    ensures written { λ _. ⌜ now (found .exit) ≡ rules.foundAfter (as-coded.ofGot got) (now (found .entry)) ⌝ }
 {
     match got {
         Got::Absent => accepted(0),

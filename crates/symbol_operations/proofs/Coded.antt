@@ -3,7 +3,7 @@
 use mathlib.Core.Path.{_≡_, refl, ap, _∙_}
 use Rattle.symbol_operations.specs.Act as act
 use Rattle.symbol_operations.specs.Operation as operation
-use Rattle.symbol_operations.specs.Operations.{ofAct, ofOperation, ofAsked}
+use Rattle.symbol_operations.specs.AsCoded.{ofAct, ofOperation, ofAsked}
 use Rattle.symbol_operations.specs.declared.operation.Act.{Act}
 use Rattle.symbol_operations.specs.declared.operation.Act.the-variants as code-act
 use Rattle.symbol_operations.specs.declared.operation.Operation.{Operation}

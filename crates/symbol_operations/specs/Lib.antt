@@ -1,3 +1,4 @@
 pub mod Act
 pub mod Operation
 pub mod Operations
+pub mod AsCoded

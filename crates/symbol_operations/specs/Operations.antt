@@ -3,33 +3,10 @@ use mathlib.Core.Bool.{Bool, true, false}
 use Rattle.symbol_operations.specs.Act as act
 use Rattle.symbol_operations.specs.Act.{Act}
 use Rattle.symbol_operations.specs.Operation.{Operation, putNothing, acts}
-use Rattle.symbol_operations.specs.declared.operation.Act as coded-act
-use Rattle.symbol_operations.specs.declared.operation.Act.the-variants as code-act
-use Rattle.symbol_operations.specs.declared.operation.Operation as coded-operation
-use Rattle.symbol_operations.specs.declared.operation.Operation.the-variants as code
-use Rattle.symbol_operations.specs.declared.operation.Asked.{Asked}
-use Rattle.symbol_operations.specs.declared.operation.Asked.the-variants as asked
 use Rattle.symbol_operations.specs.declared.operation.Offer.{Offer}
 use Rattle.symbol_operations.specs.declared.operation.Offer.the-variants as offer
 use Rattle.symbol_operations.specs.declared.operation.Declared.{Declared}
 use Rattle.symbol_operations.specs.declared.operation.Declared.the-variants as declared
-
-abbrev pub ofAct : coded-act.Act → Act
-ofAct code-act.PutPoison = act.putPoison
-ofAct code-act.PutType = act.putType
-ofAct code-act.ForwardPoison = act.forwardPoison
-ofAct code-act.ForwardType = act.forwardType
-
-abbrev pub ofOperation : coded-operation.Operation → Operation
-ofOperation code.PutNothing = putNothing
-ofOperation code.PutPoison = acts act.putPoison
-ofOperation code.PutType = acts act.putType
-ofOperation code.ForwardPoison = acts act.forwardPoison
-ofOperation code.ForwardType = acts act.forwardType
-
-abbrev pub ofAsked : Asked → Operation
-ofAsked asked.Nothing = putNothing
-ofAsked (asked.Acts a) = acts (ofAct a)
 
 -- Put is of nothing, poison or a type; a forward declaration of poison or a type.
 abbrev pub put : Offer → Operation

@@ -1,5 +1,6 @@
 ghost use mathlib.Core.Path.{_≡_};
 ghost use Rattle.symbol_operations.specs.Operations as rules;
+ghost use Rattle.symbol_operations.specs.AsCoded as as-coded;
 
 // What is done to a table under a name.
 pub enum Operation {
@@ -38,7 +39,7 @@ pub enum Declared {
 }
 
 pub fn put(offer: Offer) -> Operation
-    ensures { λ r. ⌜ rules.ofOperation r ≡ rules.put offer ⌝ }
+    ensures { λ r. ⌜ as-coded.ofOperation r ≡ rules.put offer ⌝ }
 {
     match offer {
         Offer::Nothing => Operation::PutNothing,
@@ -48,7 +49,7 @@ pub fn put(offer: Offer) -> Operation
 }
 
 pub fn forward(declared: Declared) -> Operation
-    ensures { λ r. ⌜ rules.ofOperation r ≡ rules.forward declared ⌝ }
+    ensures { λ r. ⌜ as-coded.ofOperation r ≡ rules.forward declared ⌝ }
 {
     match declared {
         Declared::Poison => Operation::ForwardPoison,
@@ -57,7 +58,7 @@ pub fn forward(declared: Declared) -> Operation
 }
 
 pub fn act_of(operation: Operation) -> Asked
-    ensures { λ r. ⌜ rules.ofAsked r ≡ rules.ofOperation operation ⌝ }
+    ensures { λ r. ⌜ as-coded.ofAsked r ≡ as-coded.ofOperation operation ⌝ }
 {
     match operation {
         Operation::PutNothing => Asked::Nothing,
@@ -69,7 +70,7 @@ pub fn act_of(operation: Operation) -> Asked
 }
 
 pub fn offers_type(act: Act) -> bool
-    ensures { λ r. ⌜ r ≡ rules.offersType (rules.ofAct act) ⌝ }
+    ensures { λ r. ⌜ r ≡ rules.offersType (as-coded.ofAct act) ⌝ }
 {
     match act {
         Act::PutPoison => false,

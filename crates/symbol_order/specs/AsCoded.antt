@@ -19,6 +19,6 @@ stands after before s words =
     (cond (hasId (s .id) before) false (passes (s .state) (s .layers) words))
     false))
 
--- The ids of the first k rows are noted, by what is left of them by 512.
+-- The ids of the first k rows are noted, by their remainder by 512.
 pub record Noted (noted : List Bool) (ws : List ℕ) (k : ℕ) : Type 0 where
   pub before : (i : ℕ) → i < k → getD noted (getD ws i 0 % 512) false ≡ true

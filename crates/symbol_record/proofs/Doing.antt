@@ -10,7 +10,8 @@ use Rattle.write_answer.specs.declared.answer.Answer.{Answer}
 use Rattle.symbol_update.specs.declared.update_record.Updated.{Updated}
 use Rattle.symbol_update.specs.Update.{typed}
 use Rattle.symbol_operations.specs.Act as act
-use Rattle.symbol_operations.specs.Operations.{ofAct, offersType}
+use Rattle.symbol_operations.specs.Operations.{offersType}
+use Rattle.symbol_operations.specs.AsCoded.{ofAct}
 use Rattle.symbol_operations.specs.declared.operation.Act.{Act}
 use Rattle.symbol_record.specs.Deed.{poisoned, filled, filledWords, overwrites}
 use Rattle.symbol_record.specs.AsCoded.{seen}

@@ -9,7 +9,7 @@ use type_numbers::State;
 use write_answer::accepted;
 use write_words::write_words;
 ghost use mathlib.Core.Path.{_≡_};
-ghost use Rattle.symbol_operations.specs.Operations.{ofAct};
+ghost use Rattle.symbol_operations.specs.AsCoded.{ofAct};
 ghost use Rattle.symbol_record.specs.Deed as rules;
 ghost use Rattle.symbol_record.specs.AsCoded as as-coded;
 

@@ -7,7 +7,7 @@ use Rattle.type_numbers.specs.Limit as limit
 use Rattle.symbol_columns.specs.AsCoded.{readFrom}
 use Rattle.symbol_search.specs.Search.{firstFree, slotFor}
 
--- The same of columns: of more than 128 rows, their number.
+-- `firstFree` and `slotFor` of a table in columns: of more than 128 rows, their number.
 unfoldable pub freeIn : List ℕ → ℕ → ℕ
 freeIn ws n = cond (ltb limit.records n) n (firstFree (readFrom ws 0 n))
 

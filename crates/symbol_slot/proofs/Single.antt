@@ -3,7 +3,7 @@
 use mathlib.Core.Path.{_≡_, refl, sym, ap, _∙_}
 use Rattle.type_layers.proofs.Single.{Single}
 use Rattle.symbol_slot.specs.Way as way
-use Rattle.symbol_slot.specs.Slot.{ofWay}
+use Rattle.symbol_slot.specs.AsCoded.{ofWay}
 use Rattle.symbol_slot.specs.declared.slot.Way.{Way}
 use Rattle.symbol_slot.specs.declared.slot.Way.the-variants as code
 use Rattle.symbol_slot.proofs.slot.way_of.Kinds.{ps, r}

@@ -14,8 +14,6 @@ use Rattle.symbol_operations.specs.Act.{Act}
 use Rattle.symbol_operations.specs.Operations.{offersType}
 use Rattle.symbol_slot.specs.Way as way
 use Rattle.symbol_slot.specs.Way.{Way}
-use Rattle.symbol_slot.specs.declared.slot.Way as coded
-use Rattle.symbol_slot.specs.declared.slot.Way.the-variants as code
 
 -- "Types are checked 1, 2 (all layers), 3"; a poison mark is no type.
 abbrev pub offeredCheck : Act → List ℕ → Answer ℕ
@@ -38,9 +36,3 @@ unless nothing w = w
 -- "Types are checked 1, 2 (all layers), 3 ..; then 5, 12, 13, 4 .., 6 or 7": 4 and 7 are the update's.
 unfoldable pub wayOf : Act → ℕ → List ℕ → List Symbol → List ℕ → Way
 wayOf a id offered table store = unless (offeredCheck a offered) (placeOf id table store)
-
--- What each of the code's ways is.
-abbrev pub ofWay : coded.Way → Way
-ofWay (code.Refused n p) = way.refused n p
-ofWay (code.Found k) = way.found k
-ofWay (code.Free k) = way.free k

@@ -10,8 +10,9 @@ use type_numbers::Refusal;
 ghost use mathlib.Core.Path.{_≡_};
 ghost use Rattle.type_layers.specs.Answer.{ofChecked};
 ghost use Rattle.symbol_columns.specs.AsCoded.{readFrom};
-ghost use Rattle.symbol_operations.specs.Operations.{ofAct};
+ghost use Rattle.symbol_operations.specs.AsCoded.{ofAct};
 ghost use Rattle.symbol_slot.specs.Slot as rules;
+ghost use Rattle.symbol_slot.specs.AsCoded as as-coded;
 
 // The record that an act is about: the one that has the id, or the first free one.
 pub enum Way {
@@ -32,7 +33,7 @@ fn check_offered(act: Act, offered: &[u64]) -> Checked
 }
 
 fn slot_for(flat: &Columns, n: usize, store: &[u64], id: u32) -> Way
-    ensures { λ r. ⌜ rules.ofWay r ≡ rules.placeOf id (readFrom (now (flat .entry)) 0 n) (now (store .entry)) ⌝ }
+    ensures { λ r. ⌜ as-coded.ofWay r ≡ rules.placeOf id (readFrom (now (flat .entry)) 0 n) (now (store .entry)) ⌝ }
 {
     if !in_order(flat, n, store) {
         return Way::Refused {
@@ -56,7 +57,7 @@ fn slot_for(flat: &Columns, n: usize, store: &[u64], id: u32) -> Way
 
 // The refusals of the offered type come before those of the table.
 pub fn way_of(act: Act, flat: &Columns, n: usize, store: &[u64], id: u32, offered: &[u64]) -> Way
-    ensures { λ r. ⌜ rules.ofWay r
+    ensures { λ r. ⌜ as-coded.ofWay r
         ≡ rules.wayOf (ofAct act) id (now (offered .entry)) (readFrom (now (flat .entry)) 0 n) (now (store .entry)) ⌝ }
 {
     match check_offered(act, offered) {

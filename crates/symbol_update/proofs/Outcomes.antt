@@ -9,7 +9,8 @@ use Rattle.type_layers.specs.Layers.{layers}
 use Rattle.symbol_columns.specs.declared.symbol.Symbol.{Symbol}
 use Rattle.symbol_columns.specs.StoredWords.{storedWords}
 use Rattle.write_answer.specs.declared.answer.Answer.{Answer}
-use Rattle.symbol_update_rule.specs.Rule.{lineOf, ofLine}
+use Rattle.symbol_update_rule.specs.Rule.{lineOf}
+use Rattle.symbol_update_rule.specs.AsCoded.{ofLine}
 use Rattle.symbol_update_rule.specs.declared.lines.Line.{Line}
 use Rattle.symbol_update.specs.Update.{lineAt, recordBy, answerBy, wordsBy, updated, wordsAfter}
 

@@ -3,7 +3,7 @@
 use mathlib.Core.Path.{_≡_, refl, sym, ap, _∙_}
 use Rattle.type_layers.proofs.Single.{Single}
 use Rattle.symbol_update_rule.specs.Line as line
-use Rattle.symbol_update_rule.specs.Rule.{ofLine}
+use Rattle.symbol_update_rule.specs.AsCoded.{ofLine}
 use Rattle.symbol_update_rule.specs.declared.lines.Line.{Line}
 use Rattle.symbol_update_rule.specs.declared.lines.Line.the-variants as code
 use Rattle.symbol_update_rule.proofs.lines.decide.Kinds.{ps, r}

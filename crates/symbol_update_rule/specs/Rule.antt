@@ -8,8 +8,6 @@ use Rattle.relation_declared.specs.Declared.{declared, concretization}
 use Rattle.relation_coerces.specs.Coerces.{coerces}
 use Rattle.symbol_update_rule.specs.Line as line
 use Rattle.symbol_update_rule.specs.Line.{Line}
-use Rattle.symbol_update_rule.specs.declared.lines.Line as coded
-use Rattle.symbol_update_rule.specs.declared.lines.Line.the-variants as code
 
 unfoldable pub lineOf : Bool → Bool → Bool → List Layer → List Layer → Line
 lineOf poisoned authoritative newly stored offered =
@@ -25,12 +23,3 @@ lineOf poisoned authoritative newly stored offered =
     (cond (newly && (concretization offered stored || coerces offered stored)) line.bothReplaced
     -- "Else 7."
     line.conflicting))))
-
--- Which line each of the code's is.
-abbrev pub ofLine : coded.Line → Line
-ofLine code.Poisoned = line.poisoned
-ofLine code.IllFormed = line.illFormed
-ofLine code.Kept = line.kept
-ofLine code.TypeReplaced = line.typeReplaced
-ofLine code.BothReplaced = line.bothReplaced
-ofLine code.Conflicting = line.conflicting

@@ -5,7 +5,8 @@ use relation_equals::identical;
 use type_wellformed::is_wellformed;
 ghost use mathlib.Core.Path.{_≡_};
 ghost use Rattle.type_layers.specs.Layers.{layers};
-ghost use Rattle.symbol_update_rule.specs.Rule.{lineOf, ofLine};
+ghost use Rattle.symbol_update_rule.specs.Rule.{lineOf};
+ghost use Rattle.symbol_update_rule.specs.AsCoded.{ofLine};
 
 // The lines of the rule, in its order.
 pub enum Line {

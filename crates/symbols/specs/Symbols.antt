@@ -8,13 +8,14 @@ use Rattle.write_answer.specs.declared.answer.Answer.{Answer}
 use Rattle.symbol_columns.specs.declared.symbol.Symbol.{Symbol}
 use Rattle.symbol_order.specs.Order.{inOrder}
 use Rattle.symbol_update_rule.specs.Line.{Line}
-use Rattle.symbol_update.specs.Update.{lineAt}
+use Rattle.symbol_update.specs.Update.{typed, lineAt}
 use Rattle.symbol_update_lone.specs.Lone.{LoneBecomes}
 use Rattle.symbol_operations.specs.Act as act
 use Rattle.symbol_operations.specs.Operation.{Operation, acts}
 use Rattle.symbol_operations.specs.Operations as operations
 use Rattle.symbol_operations.specs.declared.operation.Offer.{Offer}
 use Rattle.symbol_operations.specs.declared.operation.Declared.{Declared}
+use Rattle.symbol_record.specs.Deed.{poisoned}
 use Rattle.symbol_change.specs.Change.{Outcome, outcome}
 use Rattle.symbol_get.specs.Got.{Got}
 use Rattle.symbol_get.specs.Get.{got, typeOf}
@@ -32,8 +33,18 @@ Store = List ℕ
 abbrev pub InOrder : Table → Store → Type 0
 InOrder table store = inOrder table store ≡ true
 
--- "An update changes the lent symbol itself, by the first line that applies": the record, its words, the new name's
--- authority and the offered words tell which.
+-- "Poisoning sets the layer count to 0; writing a type sets the mark to 0."
+abbrev pub poisonedRecord : ℕ → Bool → ℕ → ℕ → Symbol
+poisonedRecord id authority place mark = poisoned id authority place mark
+
+abbrev pub typedRecord : ℕ → Bool → ℕ → List ℕ → Symbol
+typedRecord id authority place words = typed id authority place words
+
+-- "An update changes the lent symbol itself, by the first line that applies: poisoned: accepted, nothing changes. Offered
+-- type, then stored type, ill formed: 4. Identical, or stored is a concretization of offered: accepted, nothing changes.
+-- Symbol authoritative and offered is declared as stored: type replaced, identifier kept. New identifier authoritative and
+-- offered is a concretization of or coerces into stored: both replaced. Else 7." Of a record, its words, the new name's
+-- authority and the offered words: which line.
 abbrev pub updateLine : Symbol → List ℕ → Bool → List ℕ → Line
 updateLine symbol words authority offered = lineAt symbol words authority offered
 

@@ -4,7 +4,7 @@ use symbol_columns::Symbol;
 use symbol_lent::gather;
 use symbol_operations::Operation;
 use write_answer::Answer;
-ghost use Rattle.symbol_operations.specs.Operations.{ofOperation};
+ghost use Rattle.symbol_operations.specs.AsCoded.{ofOperation};
 ghost use Rattle.symbol_change.specs.Change.{Becomes};
 ghost use Rattle.symbols.specs.Symbols as symbols;
 

@@ -1,7 +1,7 @@
 -- The paper's answers tell the cases of the enum apart.
 -- Assumes nothing.
 use mathlib.Core.Path.{_≡_}
-use Rattle.type_part_starts.specs.PartStarts.{ofStart}
+use Rattle.type_part_starts.specs.AsCoded.{ofStart}
 use Rattle.type_part_starts.specs.declared.part_starts.Start.{Start}
 use Rattle.type_part_starts.specs.declared.part_starts.Start.the-variants as start
 

@@ -3,19 +3,11 @@ use mathlib.Core.Bool.{Bool, true, false}
 use mathlib.Core.List.{List}
 use Prim.Native.Nat.{ℕ, _*_}
 use Rattle.type_layers.specs.Layers.{Layer, layers, outer}
-use Rattle.type_layers.specs.Answer.{Answer, given, nothing, refused, next}
+use Rattle.type_layers.specs.Answer.{Answer, given, nothing, next}
 use Rattle.type_checks.specs.Check.{checkOf}
 use Rattle.type_parts.specs.Parts.{hasElement, hasPointee, hasViewee, references}
 use Rattle.type_part_starts.specs.declared.part_starts.Part.{Part}
 use Rattle.type_part_starts.specs.declared.part_starts.Part.the-variants as part
-use Rattle.type_part_starts.specs.declared.part_starts.Start.{Start}
-use Rattle.type_part_starts.specs.declared.part_starts.Start.the-variants as start
-
--- The word at which a part starts, or that there is no such part.
-abbrev pub ofStart : Start → Answer ℕ
-ofStart (start.At n) = given n
-ofStart start.Nothing = nothing
-ofStart (start.Refused n p) = refused n p
 
 -- The inner type starts three words in, where there is one.
 abbrev pub innerStart : Bool → Answer ℕ

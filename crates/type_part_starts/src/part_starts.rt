@@ -12,7 +12,8 @@ ghost use lib.ListN.{length};
 ghost use Rattle.type_layers.specs.Layers.{layers};
 ghost use Rattle.type_layers.specs.Answer.{given, nothing, isGiven};
 ghost use Rattle.type_checks.specs.Check.{checkOf};
-ghost use Rattle.type_part_starts.specs.PartStarts.{ofStart, startIn, startAnswer};
+ghost use Rattle.type_part_starts.specs.PartStarts.{startIn, startAnswer};
+ghost use Rattle.type_part_starts.specs.AsCoded.{ofStart};
 
 // The parts of a type that can be asked for.
 pub enum Part {

@@ -1,5 +1,5 @@
 use borrow.Author.Needs.{needs}
-use Rattle.plan_turn.specs.Turn.{ofTurn}
+use Rattle.plan_turn.specs.AsCoded.{ofTurn}
 use Rattle.plan_rounds.proofs.round.took.Statement.{statement}
 use Rattle.plan_rounds.proofs.round.took.Tie as tie
 

@@ -1,6 +1,6 @@
 use borrow.Author.Tests.{eq-eqb, ne-eqb}
 use Rattle.type_layers.proofs.Decide.{yes, no}
-use Rattle.plan_turn.specs.Turn.{ofTurn}
+use Rattle.plan_turn.specs.AsCoded.{ofTurn}
 use Rattle.plan_turn.proofs.decide_turn.on_element.Statement.{statement}
 use Rattle.plan_turn.proofs.decide_turn.on_element.Tie as tie
 

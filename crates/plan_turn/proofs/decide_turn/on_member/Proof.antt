@@ -1,5 +1,5 @@
 use Rattle.type_layers.proofs.Decide.{yes, no}
-use Rattle.plan_turn.specs.Turn.{ofTurn}
+use Rattle.plan_turn.specs.AsCoded.{ofTurn}
 use Rattle.plan_turn.proofs.decide_turn.on_member.Statement.{statement}
 use Rattle.plan_turn.proofs.decide_turn.on_member.Tie as tie
 

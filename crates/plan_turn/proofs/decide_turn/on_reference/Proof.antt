@@ -1,6 +1,6 @@
 use Rattle.type_layers.proofs.Decide.{yes, no}
 use Rattle.plan_turn.proofs.Decided.{auto-pointer, auto-view}
-use Rattle.plan_turn.specs.Turn.{ofTurn}
+use Rattle.plan_turn.specs.AsCoded.{ofTurn}
 use Rattle.plan_turn.proofs.decide_turn.on_reference.Statement.{statement}
 use Rattle.plan_turn.proofs.decide_turn.on_reference.Tie as tie
 

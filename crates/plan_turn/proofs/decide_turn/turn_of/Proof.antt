@@ -1,6 +1,6 @@
 use Rattle.plan_turn.proofs.Decided.{on-reference, on-element, on-member, on-no-other}
 use borrow.Author.Needs.{needs}
-use Rattle.plan_turn.specs.Turn.{ofTurn}
+use Rattle.plan_turn.specs.AsCoded.{ofTurn}
 use Rattle.plan_turn.proofs.decide_turn.turn_of.Statement.{statement}
 use Rattle.plan_turn.proofs.decide_turn.turn_of.Tie as tie
 

@@ -65,7 +65,7 @@ use Rattle.write_answer.proofs.answer.Answer.Laws as B′
 use Rattle.symbol_change.specs.Change.{outcome}
 use Rattle.symbol_change.specs.AsCoded.{changeOf, storeOf}
 use Rattle.symbol_operations.specs.declared.operation.Operation.{Operation}
-use Rattle.symbol_operations.specs.Operations.{ofOperation}
+use Rattle.symbol_operations.specs.AsCoded.{ofOperation}
 use Rattle.symbol_change.specs.declared.change.Change.{Change}
 use Rattle.symbol_change.proofs.Outcomes.{answer-is, store-is, table-kept, table-set}
 use Rattle.symbols.proofs.Whole.{change-same, store-same}
