@@ -1,5 +1,4 @@
 -- The lines of the settling, (i) to (vii).
-
 pub data Line : Type 0 where
   i : Line
   ii : Line

@@ -1,5 +1,4 @@
 -- No rule, but what contracts of the code need: what each way of the code is in the rule's terms.
-use Rattle.type_layers.specs.Answer.{refused}
 use Rattle.symbol_slot.specs.Way as way
 use Rattle.symbol_slot.specs.Way.{Way}
 use Rattle.symbol_slot.specs.declared.slot.Way as coded

@@ -1,5 +1,4 @@
 -- The lines of the update, in the rule's order.
-
 pub data Line : Type 0 where
   poisoned : Line
   illFormed : Line
