@@ -1,17 +1,19 @@
 -- Sub-autoderefs and autoderefs, by what the code tested.
 -- Assumes nothing.
 use mathlib.Core.Path.{_≡_, refl, sym, _∙_}
-use mathlib.Core.Bool.{Bool, true, false, _&&_, _||_, or-true, or-false, false≢true}
+use mathlib.Core.Bool.{Bool, true, false, cond, not, _&&_, _||_, or-true, or-false, false≢true}
 use mathlib.Core.List.{List, [], _∷_}
 use Prim.Native.Nat.{ℕ, _≤_, _<_}
 use lib.Dec.{eqb}
 use lib.ListN.{length, getD}
-use borrow.Author.Tests.{eq-eqb, ne-eqb}
+use borrow.Author.Tests.{eq-eqb, ne-eqb, not-true, not-false}
 use Rattle.type_numbers.specs.Kind as kind
 use Rattle.type_layers.specs.Layers.{Layer, layers, outer, inside, innerWords, isReference}
+use Rattle.type_layers.specs.AsCoded.{head}
 use Rattle.type_layers.proofs.Words.{rest, none, more, inner-layers}
 use Rattle.relation_equals.specs.Equals.{equals}
 use Rattle.relation_coerces.specs.Coerces.{coerces, addressCoerces, subautoderefs, isArrayOrStruct, viewAutoderefs, pointerAutoderefs, autoderefs}
+use Rattle.relation_coerces.proofs.OnePass.{one-line}
 
 -- "or", where the code holds the first test's outcome
 pub or-yes : (f x y : Bool) → f ≡ x → f ≡ true → f ≡ (x || y)
@@ -20,36 +22,34 @@ or-yes f x y e t = rw (← e, t)
 pub or-no : (f x y r : Bool) → f ≡ x → f ≡ false → r ≡ y → r ≡ (x || y)
 or-no f x y r e t s = rw (← e, t) s
 
--- sub-autoderefs: a View or a Pointer, whose inner type is the words from the fourth on
-module _ (a b : List ℕ) where
-  pub sub-none : length a < 3 → false ≡ subautoderefs (layers a) (layers b)
+-- s is whether a sub-autoderefs into b: it is settled, or the same is asked of the words from the fourth on
+module _ (a b : List ℕ) (s : Bool) (i : s ≡ subautoderefs (layers a) (layers b)) where
+  pub sub-none : length a < 3 → false ≡ s
   unfolding subautoderefs
-  sub-none h = rw (none a)
+  sub-none h = sym (rw (none a) at i)
 
   module _ (h : 3 ≤ length a) where
-    pub sub-other : isReference (getD a 0 0) ≡ false → false ≡ subautoderefs (layers a) (layers b)
-    unfolding subautoderefs
-    sub-other e = rw (more a, e)
+    line : s
+        ≡ cond (isReference (getD a 0 0))
+        (cond (eqb (outer (layers b)) (getD a 0 0)) (subautoderefs (layers (rest a)) (inside (layers b)))
+        (cond (equals (layers (rest a)) (layers b)) true (subautoderefs (layers (rest a)) (layers b))))
+        false
+    line = i ∙ rw (more a) (one-line (head a) (layers (rest a)) (layers b))
 
-    module _ (e : isReference (getD a 0 0) ≡ true) (f : Bool) (p : f ≡ equals (layers (rest a)) (layers b)) where
-      pub sub-equal : f ≡ true → true ≡ subautoderefs (layers a) (layers b)
-      unfolding subautoderefs
-      sub-equal t = rw (more a, e, ← p, t)
+    module _ (t : Bool) (e : t ≡ isReference (getD a 0 0)) where
+      pub sub-other : not t ≡ true → false ≡ s
+      sub-other q = sym (rw (← e, not-true t q) at line)
 
-      module _ (s : f ≡ false) (g : Bool) (q : g ≡ subautoderefs (layers (rest a)) (layers b)) where
-        pub sub-inside : g ≡ true → true ≡ subautoderefs (layers a) (layers b)
-        unfolding subautoderefs
-        sub-inside t = rw (more a, e, ← p, s, ← q, t)
+      module _ (q : not t ≡ false) (k : ℕ) (w : k ≡ outer (layers b)) where
+        pub sub-held : k ≡ getD a 0 0 → (c : List ℕ) → c ≡ innerWords b → s ≡ subautoderefs (layers (rest a)) (layers c)
+        sub-held u c j = rw (← e, not-false t q, ← w, eq-eqb k (getD a 0 0) u, ← inner-layers b, ← j) at line
 
-        module _ (t : g ≡ false) (k : ℕ) (w : k ≡ outer (layers b)) where
-          pub sub-held : k ≡ getD a 0 0 → (c : List ℕ) (r : Bool) → c ≡ innerWords b →
-              r ≡ subautoderefs (layers (rest a)) (layers c) → r ≡ subautoderefs (layers a) (layers b)
-          unfolding subautoderefs
-          sub-held u c r i j = rw (more a, e, ← p, s, ← q, t, ← w, eq-eqb k (getD a 0 0) u, ← inner-layers b, ← i) j
+        module _ (u : k ≡ getD a 0 0 → ⊥) (f : Bool) (p : f ≡ equals (layers (rest a)) (layers b)) where
+          pub sub-equal : f ≡ true → true ≡ s
+          sub-equal g = sym (rw (← e, not-false t q, ← w, ne-eqb k (getD a 0 0) u, ← p, g) at line)
 
-          pub sub-no-other : (k ≡ getD a 0 0 → ⊥) → eqb k (getD a 0 0) ≡ subautoderefs (layers a) (layers b)
-          unfolding subautoderefs
-          sub-no-other u = rw (more a, e, ← p, s, ← q, t, ← w, ne-eqb k (getD a 0 0) u)
+          pub sub-inside : f ≡ false → s ≡ subautoderefs (layers (rest a)) (layers b)
+          sub-inside g = rw (← e, not-false t q, ← w, ne-eqb k (getD a 0 0) u, ← p, g) at line
 
 -- the lines that autoderefs has for a View and a Pointer are "a equals b", here u, and those of sub-autoderefs
 grouped : (u v w z : Bool) → (u || (v || w || z)) ≡ (u || v || w || z)

@@ -2,15 +2,17 @@
 -- Assumes nothing.
 use mathlib.Core.Path.{_≡_, refl, sym, subst, _∙_}
 use mathlib.Core.Bool.{Bool, true, false, cond, _&&_, _||_, or-true, false≢true}
-use mathlib.Core.List.{List, [], _∷_}
+use mathlib.Core.List.{List, [], _∷_, _++_}
 use Prim.Native.Nat.{ℕ}
 use lib.Dec.{eqb}
+use lib.ListN.{replicate}
 use borrow.Author.Tests.{eqb-true}
 use Rattle.type_numbers.specs.Kind as kind
 use Rattle.type_layers.specs.Layers.{Layer, layer, outer, inside, isReference}
-use Rattle.relation_equals.specs.Equals.{identical, equals}
+use Rattle.relation_equals.specs.Equals.{identical, plain, equals}
 use Rattle.relation_equals.proofs.Theorems.{identical-equals, equals-reflexive}
 use Rattle.relation_coerces.specs.Coerces.{hasLength, intoSlice, intoEndlessArray, structIntoView, coerces, addressCoerces, isArrayOrStruct, viewAutoderefs, pointerAutoderefs, autoderefs}
+use Rattle.relation_coerces.specs.AsCoded.{comparedBy, pass}
 
 -- the pairs of kinds of which a value may coerce
 abbrev listed : ℕ → ℕ → ℕ → Bool
@@ -120,3 +122,9 @@ int32 = layer kind.int32 0 0 ∷ []
 pub int32-not-into-itself : autoderefs int32 int32 ≡ false
 unfolding autoderefs outer
 int32-not-into-itself = refl
+
+-- One pass of sub-autoderefs never compares more pairs of layers than the left type holds; so many it may be: fifteen for
+-- fifteen Pointers to an Int32, asked whether they sub-autoderef into Int32.
+pub fifteen-compared : pass (replicate 15 (layer kind.pointer 0 0) ++ int32) int32 .compared ≡ 15
+unfolding pass comparedBy outer inside equals identical plain
+fifteen-compared = refl

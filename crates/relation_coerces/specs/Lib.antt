@@ -1,1 +1,2 @@
 pub mod Coerces
+pub mod AsCoded

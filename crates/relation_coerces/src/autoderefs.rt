@@ -2,6 +2,7 @@ use crate::coerces::can_coerce_address_into;
 use crate::coerces::can_coerce_into;
 use relation_equals::equals;
 use type_layers::inner;
+use type_layers::is_reference;
 use type_layers::outer;
 use type_numbers::Kind;
 ghost use mathlib.Core.Path.{_≡_};
@@ -39,23 +40,26 @@ pub fn can_autoderef_into(a: &[u64], b: &[u64]) -> bool
     false
 }
 
-// Whether a View or a Pointer sub-autoderefs into another type.
+// Whether a View or a Pointer sub-autoderefs into another type. Where both are of one outer kind, only what they hold is
+// asked: whatever equals a View or a Pointer, or sub-autoderefs into it, sub-autoderefs into what that holds.
 pub fn can_subautoderef_into(a: &[u64], b: &[u64]) -> bool
     ensures { λ r. ⌜ r ≡ rules.subautoderefs (layers (now (a .entry))) (layers (now (b .entry))) ⌝ }
 {
-    if a.len() < 3 {
-        return false;
-    }
-    let k = a[0];
-    if (k == Kind::POINTER) | (k == Kind::VIEW) {
-        let d = &a[3..];
-        if equals(d, b) {
+    let mut x = a;
+    let mut y = b;
+    while 3 <= x.len() {
+        let k = x[0];
+        if !is_reference(k) {
+            return false;
+        }
+        let d = &x[3..];
+        if outer(y) == k {
+            let held = inner(y);
+            y = held;
+        } else if equals(d, y) {
             return true;
         }
-        if can_subautoderef_into(d, b) {
-            return true;
-        }
-        return (outer(b) == k) && can_subautoderef_into(d, inner(b));
+        x = d;
     }
     false
 }
