@@ -21,7 +21,7 @@ use std::process::exit;
 
 const USAGE: &str = "usage: oracle smoke | oracle cases | oracle plans | oracle script FILE | \
                      oracle pairs FILE | oracle answers COUNT SEED | oracle compare SCALE SEED | \
-                     oracle bench [quick]";
+                     oracle bench [quick | ours]";
 
 /// The most that SCALE may be: what it multiplies must not wrap.
 const MOST_SCALE: u64 = 1_000_000;
@@ -52,6 +52,7 @@ fn main() {
         ["compare", word, seed] => run(scale(word), number(seed)),
         ["bench"] => bench(false),
         ["bench", "quick"] => bench(true),
+        ["bench", "ours"] => bench_ours(),
         _ => fail(USAGE),
     }
 }
@@ -66,6 +67,11 @@ fn bench(quick: bool) {
     bench::bench(quick);
 }
 
+#[cfg(face)]
+fn bench_ours() {
+    bench::bench_ours();
+}
+
 #[cfg(not(face))]
 fn run(_scale: u64, _seed: u64) {
     fail(WITHOUT);
@@ -73,6 +79,11 @@ fn run(_scale: u64, _seed: u64) {
 
 #[cfg(not(face))]
 fn bench(_quick: bool) {
+    fail(WITHOUT);
+}
+
+#[cfg(not(face))]
+fn bench_ours() {
     fail(WITHOUT);
 }
 

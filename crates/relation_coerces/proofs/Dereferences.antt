@@ -28,28 +28,28 @@ module _ (a b : List ℕ) (s : Bool) (i : s ≡ subautoderefs (layers a) (layers
   unfolding subautoderefs
   sub-none h = sym (rw (none a) at i)
 
-  module _ (h : 3 ≤ length a) where
-    line : s
-        ≡ cond (isReference (getD a 0 0))
-        (cond (eqb (outer (layers b)) (getD a 0 0)) (subautoderefs (layers (rest a)) (inside (layers b)))
-        (cond (equals (layers (rest a)) (layers b)) true (subautoderefs (layers (rest a)) (layers b))))
-        false
-    line = i ∙ rw (more a) (one-line (head a) (layers (rest a)) (layers b))
+  module _ (h : 3 ≤ length a) (t : Bool) (e : t ≡ isReference (getD a 0 0)) where
+    pub sub-other : not t ≡ true → false ≡ s
+    unfolding subautoderefs
+    sub-other q = sym (rw (more a, ← e, not-true t q) at i)
 
-    module _ (t : Bool) (e : t ≡ isReference (getD a 0 0)) where
-      pub sub-other : not t ≡ true → false ≡ s
-      sub-other q = sym (rw (← e, not-true t q) at line)
+    module _ (q : not t ≡ false) where
+      pub sub-equal : (f : Bool) → f ≡ equals (layers (rest a)) (layers b) → f ≡ true → true ≡ s
+      unfolding subautoderefs
+      sub-equal f p g = sym (rw (more a, ← e, not-false t q, ← p, g) at i)
 
-      module _ (q : not t ≡ false) (k : ℕ) (w : k ≡ outer (layers b)) where
+      module _ (k : ℕ) (w : k ≡ outer (layers b)) where
+        line : s
+            ≡ cond (eqb k (getD a 0 0)) (subautoderefs (layers (rest a)) (inside (layers b)))
+            (cond (equals (layers (rest a)) (layers b)) true (subautoderefs (layers (rest a)) (layers b)))
+        line = rw (more a, one-line (head a) (layers (rest a)) (layers b), ← e, not-false t q, ← w) at i
+
         pub sub-held : k ≡ getD a 0 0 → (c : List ℕ) → c ≡ innerWords b → s ≡ subautoderefs (layers (rest a)) (layers c)
-        sub-held u c j = rw (← e, not-false t q, ← w, eq-eqb k (getD a 0 0) u, ← inner-layers b, ← j) at line
+        sub-held u c j = rw (eq-eqb k (getD a 0 0) u, ← inner-layers b, ← j) at line
 
-        module _ (u : k ≡ getD a 0 0 → ⊥) (f : Bool) (p : f ≡ equals (layers (rest a)) (layers b)) where
-          pub sub-equal : f ≡ true → true ≡ s
-          sub-equal g = sym (rw (← e, not-false t q, ← w, ne-eqb k (getD a 0 0) u, ← p, g) at line)
-
-          pub sub-inside : f ≡ false → s ≡ subautoderefs (layers (rest a)) (layers b)
-          sub-inside g = rw (← e, not-false t q, ← w, ne-eqb k (getD a 0 0) u, ← p, g) at line
+        pub sub-inside : (k ≡ getD a 0 0 → ⊥) → (f : Bool) → f ≡ equals (layers (rest a)) (layers b) → f ≡ false →
+            s ≡ subautoderefs (layers (rest a)) (layers b)
+        sub-inside u f p g = rw (ne-eqb k (getD a 0 0) u, ← p, g) at line
 
 -- the lines that autoderefs has for a View and a Pointer are "a equals b", here u, and those of sub-autoderefs
 grouped : (u v w z : Bool) → (u || (v || w || z)) ≡ (u || v || w || z)

@@ -37,12 +37,16 @@ pub struct Measured {
     pub ratio: [f64; 3],
 }
 
-/// How many rounds, and how long each side runs in one.
+/// How many rounds, how long each side runs in one, and how many are enough where one is far longer.
 #[derive(Clone, Copy)]
 pub struct Length {
     pub rounds: usize,
     pub round: Duration,
+    pub enough: usize,
 }
+
+/// A round that takes longer than this is far longer.
+const LONG: Duration = Duration::from_millis(100);
 
 /// A side whose calls leave everything as it was: `run` makes them once.
 pub fn repeated<'a>(calls: usize, mut run: impl FnMut() + 'a) -> Side<'a> {
@@ -81,14 +85,18 @@ pub fn kept<R>(calls: usize, run: impl FnOnce(&mut Vec<R>)) -> Spent {
     Spent { calls, time }
 }
 
-/// How many times a side goes over its questions in a round. The first times also warm it up.
-fn times(side: &mut Side, round: Duration) -> usize {
+/// How many times a side goes over its questions in a round, and how many rounds it needs. The first times
+/// also warm it up.
+fn times(side: &mut Side, length: Length) -> (usize, usize) {
     let mut times = 1;
     loop {
         let spent = side(times).time.max(Duration::from_nanos(1));
-        if spent * 4 >= round {
-            let fit = times as f64 * round.as_secs_f64() / spent.as_secs_f64();
-            return (fit.round() as usize).max(1);
+        if spent > LONG {
+            return (times, length.enough);
+        }
+        if spent * 4 >= length.round {
+            let fit = times as f64 * length.round.as_secs_f64() / spent.as_secs_f64();
+            return ((fit.round() as usize).max(1), length.rounds);
         }
         times *= 2;
     }
@@ -122,14 +130,15 @@ fn own_time() -> Duration {
     Duration::new(time.seconds as u64, time.nanos as u32)
 }
 
-/// Runs a side until it ran through without other work in between, or has been run five times.
+/// Runs a side until it ran through without other work in between, or has been run five times; or once,
+/// where that is long.
 fn undisturbed(side: &mut Side, times: usize) -> f64 {
     let mut spent = Spent::default();
     for _ in 0..5 {
         let (start, own) = (Instant::now(), own_time());
         spent = side(times);
         let (all, own) = (start.elapsed(), own_time() - own);
-        if all < own + own / 20 {
+        if all < own + own / 20 || all > LONG {
             break;
         }
     }
@@ -138,10 +147,10 @@ fn undisturbed(side: &mut Side, times: usize) -> f64 {
 
 /// Each round runs both sides, ours first in every other one, and gives one ratio.
 pub fn measure(row: &mut Row, length: Length) -> Measured {
-    let ours = times(&mut row.ours, length.round);
-    let original = times(&mut row.original, length.round);
+    let (ours, rounds) = times(&mut row.ours, length);
+    let (original, enough) = times(&mut row.original, length);
     let mut all = [Vec::new(), Vec::new(), Vec::new()];
-    for round in 0..length.rounds {
+    for round in 0..rounds.min(enough) {
         let (a, b);
         if round % 2 == 0 {
             a = undisturbed(&mut row.ours, ours);
@@ -160,4 +169,11 @@ pub fn measure(row: &mut Row, length: Length) -> Measured {
         original: original[1],
         ratio,
     }
+}
+
+/// The median nanoseconds a call of our side alone.
+pub fn measure_ours(row: &mut Row, length: Length) -> f64 {
+    let (times, rounds) = times(&mut row.ours, length);
+    let round = |_| undisturbed(&mut row.ours, times);
+    quartiles((0..rounds).map(round).collect())[1]
 }

@@ -10,7 +10,7 @@ mod types;
 mod updates;
 
 use crate::inputs::random::Random;
-use measure::{measure, Length, Measured, Row};
+use measure::{measure, measure_ours, Length, Measured, Row};
 use std::time::Duration;
 
 /// Short, so that most rounds run without a stop even where other work does too.
@@ -19,33 +19,48 @@ const ROUND: Duration = Duration::from_millis(1);
 const FULL: Length = Length {
     rounds: 301,
     round: ROUND,
+    enough: 3,
 };
 
 const QUICK: Length = Length {
     rounds: 75,
     round: ROUND,
+    enough: 1,
 };
 
 /// Prints a line for each row and whether it meets its aim.
 pub fn bench(quick: bool) {
     let length = if quick { QUICK } else { FULL };
-    let random = &mut Random::new(1);
     println!("| question | yes | ours, ns | original, ns | ratio | quartiles | aim | |");
     println!("|---|---|---|---|---|---|---|---|");
-    let mut rows = 0;
+    let mut count = 0;
     let mut missed = 0;
-    let mut show = |mut row: Row| {
+    rows(&mut |mut row: Row| {
         let measured = measure(&mut row, length);
-        rows += 1;
+        count += 1;
         missed += usize::from(print(&row, &measured));
+    });
+    println!("\n{count} rows, {missed} miss their aim");
+}
+
+/// Prints a line for each row and for each shape of chain: our nanoseconds a call, and what was asked.
+pub fn bench_ours() {
+    let mut show = |mut row: Row| {
+        let ours = measure_ours(&mut row, QUICK);
+        println!("{ours:.2} {}", row.what);
     };
-    pairs::rows(random, &mut show);
-    forms::rows(random, &mut show);
-    updates::rows(random, &mut show);
-    records::rows(random, &mut show);
-    fixing::rows(random, &mut show);
-    plans::rows(random, &mut show);
-    println!("\n{rows} rows, {missed} miss their aim");
+    rows(&mut show);
+    pairs::chain_rows(&mut show);
+}
+
+fn rows(show: &mut dyn FnMut(Row)) {
+    let random = &mut Random::new(1);
+    pairs::rows(random, show);
+    forms::rows(random, show);
+    updates::rows(random, show);
+    records::rows(random, show);
+    fixing::rows(random, show);
+    plans::rows(random, show);
 }
 
 /// Nanoseconds, with more places the fewer they are.
@@ -56,16 +71,28 @@ fn nanos(value: f64) -> String {
     }
 }
 
+/// A ratio with two places, or with two digits where it is small.
+fn share(value: f64) -> String {
+    let mut places = 2;
+    while places < 9 && value * 10f64.powi(places) < 9.5 {
+        places += 1;
+    }
+    format!("{value:.*}", places as usize)
+}
+
 fn print(row: &Row, measured: &Measured) -> bool {
     let [low, ratio, high] = measured.ratio;
     let missed = row.aim.is_some_and(|aim| ratio > aim);
     println!(
-        "| {} | {} of {} | {} | {} | {ratio:.2} | {low:.2} to {high:.2} | {} | {} |",
+        "| {} | {} of {} | {} | {} | {} | {} to {} | {} | {} |",
         row.what,
         row.yes.0,
         row.yes.1,
         nanos(measured.ours),
         nanos(measured.original),
+        share(ratio),
+        share(low),
+        share(high),
         row.aim.map_or(String::new(), |aim| aim.to_string()),
         if missed { "misses" } else { "" },
     );

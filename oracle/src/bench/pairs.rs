@@ -1,10 +1,11 @@
-//! Relations of two types, at several numbers of layers; chains of Pointers; and the table of all pairs
-//! of some types.
+//! Relations of two types, at several numbers of layers; chains of Pointers and Views; and the tables of
+//! all pairs of some types.
 
 use super::measure::{repeated, Row};
 use super::types::{beside, count, formed, Type};
 use crate::face::type_face::*;
 use crate::inputs::random::Random;
+use crate::judge::sheets;
 use crate::original::prelude::ValueType;
 use crate::original::value_type::ask;
 use crate::original::words::*;
@@ -19,6 +20,12 @@ struct Relation {
     ours: Ours,
     original: Original,
 }
+
+const AUTODEREFS: Relation = Relation {
+    name: "autoderefs",
+    ours: tj_can_autoderef_into,
+    original: ValueType::can_autoderef_into,
+};
 
 const RELATIONS: [Relation; 6] = [
     Relation {
@@ -46,12 +53,11 @@ const RELATIONS: [Relation; 6] = [
         ours: tj_can_coerce_address_into,
         original: ValueType::can_coerce_address_into,
     },
-    Relation {
-        name: "autoderefs",
-        ours: tj_can_autoderef_into,
-        original: ValueType::can_autoderef_into,
-    },
+    AUTODEREFS,
 ];
+
+/// 32 types of 16 layers, each 15 Pointers to a Struct of its own.
+const POINTERS: &[u8] = include_bytes!("../../../examples/sheets/pointers.sheet");
 
 type Pair = (Type, Type);
 
@@ -66,13 +72,40 @@ pub fn rows(random: &mut Random, show: &mut dyn FnMut(Row)) {
     }
     for layers in [4, 8, 12, 16] {
         let what = format!("autoderefs, chains of {layers}");
-        show(row(what, None, &RELATIONS[5..], &chains(layers)));
+        let aim = (layers == 16).then_some(0.0001);
+        show(row(what, aim, &[AUTODEREFS], &chains(layers)));
     }
-    let pairs = sheet(random);
+    let pairs = squared(&some_types(random));
     show(row("a sheet of 32 types".into(), None, &RELATIONS, &pairs));
+    let pairs = squared(&sheets::read(POINTERS).expect("a sheet"));
+    let what = "the sheet pointers, its whole table".into();
+    show(table(what, None, &RELATIONS, &pairs, 1));
 }
 
+/// Each shape of chain by itself, at every number of layers.
+pub fn chain_rows(show: &mut dyn FnMut(Row)) {
+    for (name, pair) in SHAPES {
+        for layers in 2..=16 {
+            let (a, b) = pair(layers);
+            let what = format!("{name}, {layers} layers");
+            show(row(what, None, &[AUTODEREFS], &[(a, b)]));
+        }
+    }
+}
+
+/// Timed by the question.
 fn row<'a>(what: String, aim: Option<f64>, asked: &'a [Relation], pairs: &'a [Pair]) -> Row<'a> {
+    table(what, aim, asked, pairs, asked.len() * pairs.len())
+}
+
+/// The answers to all questions count as so many calls.
+fn table<'a>(
+    what: String,
+    aim: Option<f64>,
+    asked: &'a [Relation],
+    pairs: &'a [Pair],
+    calls: usize,
+) -> Row<'a> {
     let mut yes = 0;
     for relation in asked {
         for (a, b) in pairs {
@@ -87,10 +120,9 @@ fn row<'a>(what: String, aim: Option<f64>, asked: &'a [Relation], pairs: &'a [Pa
             yes += usize::from(original);
         }
     }
-    let calls = asked.len() * pairs.len();
     Row {
         what,
-        yes: (yes, calls),
+        yes: (yes, asked.len() * pairs.len()),
         aim,
         ours: repeated(calls, move || {
             let asked = black_box(asked);
@@ -137,27 +169,66 @@ fn some_pairs(random: &mut Random, relation: Relation, layers: usize) -> Vec<Pai
     pairs
 }
 
-/// Pointers around an Int32 into as many around one, around another leaf, and into fewer.
-fn chains(layers: usize) -> Vec<Pair> {
-    let chain = |layers: usize, leaf: u64| {
-        let mut t = vec![[POINTER, 0, 0]; layers - 1];
-        t.push([leaf, 0, 0]);
-        Type::new(&t)
-    };
-    let other = [(layers, 3), (layers, 4), (layers / 2, 3), (layers / 2, 4)];
-    let pairs = other.map(|(most, leaf)| (chain(layers, 3), chain(most, leaf)));
-    pairs.into_iter().collect()
+const INT32: u64 = 3;
+const INT64: u64 = 4;
+const PLAIN: [u64; 2] = [POINTER, POINTER];
+
+/// A leaf under layers of two kinds in turn.
+fn chain(kinds: [u64; 2], layers: usize, leaf: u64) -> Type {
+    let mut t: Vec<Layer> = (1..layers).map(|at| [kinds[(at - 1) % 2], 0, 0]).collect();
+    t.push([leaf, 0, 0]);
+    Type::new(&t)
 }
 
-/// All ordered pairs of 32 types of one to six layers, some of them relatives.
-fn sheet(random: &mut Random) -> Vec<Pair> {
-    let mut all: Vec<Vec<Layer>> = Vec::new();
+/// What a chain of so many layers is asked about.
+type Shape = (&'static str, fn(usize) -> Pair);
+
+const SHAPES: [Shape; 7] = [
+    ("Pointers into the same", |n| {
+        (chain(PLAIN, n, INT32), chain(PLAIN, n, INT32))
+    }),
+    ("Pointers around another leaf", |n| {
+        (chain(PLAIN, n, INT32), chain(PLAIN, n, INT64))
+    }),
+    ("Pointers into half as many", |n| {
+        (chain(PLAIN, n, INT32), chain(PLAIN, n / 2, INT32))
+    }),
+    ("Pointers into half as many around another leaf", |n| {
+        (chain(PLAIN, n, INT32), chain(PLAIN, n / 2, INT64))
+    }),
+    ("Pointers into their leaf", |n| {
+        (chain(PLAIN, n, INT32), chain(PLAIN, 1, INT32))
+    }),
+    ("Pointers into a View of a leaf", |n| {
+        (chain(PLAIN, n, INT32), chain([VIEW, VIEW], 2, INT64))
+    }),
+    ("Pointers and Views in turn into Views and Pointers", |n| {
+        (
+            chain([POINTER, VIEW], n, INT32),
+            chain([VIEW, POINTER], n, INT64),
+        )
+    }),
+];
+
+/// Pointers around an Int32 into as many around one, around another leaf, and into fewer.
+fn chains(layers: usize) -> Vec<Pair> {
+    SHAPES[..4].iter().map(|(_, pair)| pair(layers)).collect()
+}
+
+/// 32 types of one to six layers, some of them relatives.
+fn some_types(random: &mut Random) -> Vec<Vec<Layer>> {
+    let mut all = Vec::new();
     while all.len() < 32 {
         let layers = 1 + random.below(6);
         let t = formed(random, layers);
         let b = beside(random, &t);
         all.extend([t, b]);
     }
+    all
+}
+
+/// All ordered pairs.
+fn squared(all: &[Vec<Layer>]) -> Vec<Pair> {
     let each = |a: &Vec<Layer>| {
         let pair = |b: &Vec<Layer>| (Type::new(a), Type::new(b));
         all.iter().map(pair).collect::<Vec<Pair>>()
