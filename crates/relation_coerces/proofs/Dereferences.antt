@@ -13,7 +13,8 @@ use Rattle.type_layers.specs.AsCoded.{head}
 use Rattle.type_layers.proofs.Words.{rest, none, more, inner-layers}
 use Rattle.relation_equals.specs.Equals.{equals}
 use Rattle.relation_coerces.specs.Coerces.{coerces, addressCoerces, subautoderefs, isArrayOrStruct, viewAutoderefs, pointerAutoderefs, autoderefs}
-use Rattle.relation_coerces.proofs.OnePass.{one-line}
+use Rattle.relation_coerces.specs.AsCoded.{mayEqual}
+use Rattle.relation_coerces.proofs.OnePass.{apart, one-line}
 
 -- "or", where the code holds the first test's outcome
 pub or-yes : (f x y : Bool) → f ≡ x → f ≡ true → f ≡ (x || y)
@@ -22,34 +23,38 @@ or-yes f x y e t = rw (← e, t)
 pub or-no : (f x y r : Bool) → f ≡ x → f ≡ false → r ≡ y → r ≡ (x || y)
 or-no f x y r e t s = rw (← e, t) s
 
--- s is whether a sub-autoderefs into b: it is settled, or the same is asked of the words from the fourth on
-module _ (a b : List ℕ) (s : Bool) (i : s ≡ subautoderefs (layers a) (layers b)) where
-  pub sub-none : length a < 3 → false ≡ s
+-- sub-autoderefs: a View or a Pointer, whose inner type is the words from the fourth on
+module _ (a b : List ℕ) where
+  pub sub-none : length a < 3 → false ≡ subautoderefs (layers a) (layers b)
   unfolding subautoderefs
-  sub-none h = sym (rw (none a) at i)
+  sub-none h = rw (none a)
 
   module _ (h : 3 ≤ length a) (t : Bool) (e : t ≡ isReference (getD a 0 0)) where
-    pub sub-other : not t ≡ true → false ≡ s
+    pub sub-other : not t ≡ true → false ≡ subautoderefs (layers a) (layers b)
     unfolding subautoderefs
-    sub-other q = sym (rw (more a, ← e, not-true t q) at i)
+    sub-other q = rw (more a, ← e, not-true t q)
 
-    module _ (q : not t ≡ false) where
-      pub sub-equal : (f : Bool) → f ≡ equals (layers (rest a)) (layers b) → f ≡ true → true ≡ s
+    module _ (q : not t ≡ false) (r : Bool) where
+      pub sub-equal : (f : Bool) → f ≡ equals (layers (rest a)) (layers b) → f ≡ true → f ≡ subautoderefs (layers a) (layers b)
       unfolding subautoderefs
-      sub-equal f p g = sym (rw (more a, ← e, not-false t q, ← p, g) at i)
+      sub-equal f p g = rw (more a, ← e, not-false t q, ← p, g)
 
       module _ (k : ℕ) (w : k ≡ outer (layers b)) where
-        line : s
+        line : subautoderefs (layers a) (layers b)
             ≡ cond (eqb k (getD a 0 0)) (subautoderefs (layers (rest a)) (inside (layers b)))
             (cond (equals (layers (rest a)) (layers b)) true (subautoderefs (layers (rest a)) (layers b)))
-        line = rw (more a, one-line (head a) (layers (rest a)) (layers b), ← e, not-false t q, ← w) at i
+        line = rw (more a, one-line (head a) (layers (rest a)) (layers b), ← e, not-false t q, ← w)
 
-        pub sub-held : k ≡ getD a 0 0 → (c : List ℕ) → c ≡ innerWords b → s ≡ subautoderefs (layers (rest a)) (layers c)
-        sub-held u c j = rw (eq-eqb k (getD a 0 0) u, ← inner-layers b, ← j) at line
+        pub sub-held : k ≡ getD a 0 0 → (c : List ℕ) → c ≡ innerWords b → r ≡ subautoderefs (layers (rest a)) (layers c) →
+            r ≡ subautoderefs (layers a) (layers b)
+        sub-held u c j z = rw (line, eq-eqb k (getD a 0 0) u, ← inner-layers b, ← j) z
 
-        pub sub-inside : (k ≡ getD a 0 0 → ⊥) → (f : Bool) → f ≡ equals (layers (rest a)) (layers b) → f ≡ false →
-            s ≡ subautoderefs (layers (rest a)) (layers b)
-        sub-inside u f p g = rw (ne-eqb k (getD a 0 0) u, ← p, g) at line
+        module _ (u : k ≡ getD a 0 0 → ⊥) (z : r ≡ subautoderefs (layers (rest a)) (layers b)) where
+          pub sub-inside : (f : Bool) → f ≡ equals (layers (rest a)) (layers b) → f ≡ false → r ≡ subautoderefs (layers a) (layers b)
+          sub-inside f p g = rw (line, ne-eqb k (getD a 0 0) u, ← p, g) z
+
+          pub sub-apart : (j : ℕ) (f : Bool) → j ≡ outer (layers (rest a)) → f ≡ mayEqual j k → f ≡ false → r ≡ subautoderefs (layers a) (layers b)
+          sub-apart j f o p g = rw (line, ne-eqb k (getD a 0 0) u, apart (layers (rest a)) (layers b) (rw (← o, ← w, ← p) g)) z
 
 -- the lines that autoderefs has for a View and a Pointer are "a equals b", here u, and those of sub-autoderefs
 grouped : (u v w z : Bool) → (u || (v || w || z)) ≡ (u || v || w || z)

@@ -2,19 +2,19 @@
 -- the others. So one pass answers it; which pairs it settles, and how many layers it compares.
 -- Assumes no-pair.
 use mathlib.Core.Path.{_≡_, refl, sym, ap, _∙_}
-use mathlib.Core.Bool.{Bool, true, false, cond, _&&_, _||_, or-true, or-false, false≢true}
+use mathlib.Core.Bool.{Bool, true, false, cond, not, _&&_, _||_, or-true, or-false, true≢false, false≢true}
 use mathlib.Core.List.{List, [], _∷_}
 use Prim.Native.Nat.{ℕ, zero, suc, _+_, _≤_, _<_}
 use native.Mathlib.Omega.{arith}
 use lib.Dec.{eqb}
 use lib.ListN.{length, drop, getD, length-drop}
-use borrow.Author.Tests.{eq-eqb, eqb-true}
+use borrow.Author.Tests.{eq-eqb, eqb-true, eqb-false, not-false}
 use Rattle.type_numbers.specs.Kind as kind
 use Rattle.type_layers.specs.Layers.{Layer, outer, inside, isReference}
-use Rattle.type_layers.proofs.Decide.{both}
+use Rattle.type_layers.proofs.Decide.{both, neither}
 use Rattle.relation_equals.specs.Equals.{sameLayer, identical, plainKind, plainLayer, plain, equals}
 use Rattle.relation_coerces.specs.Coerces.{subautoderefs}
-use Rattle.relation_coerces.specs.AsCoded.{Pass, comparedBy, pass}
+use Rattle.relation_coerces.specs.AsCoded.{mayEqual, comparedBy, Pass, ends, goesOn, pass}
 
 -- Char8 and Uint8, which equals takes for one, are neither View nor Pointer
 same-kind : (k l : ℕ) → plainKind k ≡ plainKind l → isReference l ≡ true → k ≡ l
@@ -30,6 +30,20 @@ plain-kinds : (x y : Layer) → sameLayer (plainLayer x) (plainLayer y) ≡ true
 plain-kinds x y e =
     let f = both (eqb (plainKind (x .kind)) (plainKind (y .kind)) && eqb (x .name) (y .name)) (eqb (x .number) (y .number)) e in
     eqb-true (plainKind (x .kind)) (plainKind (y .kind)) (both (eqb (plainKind (x .kind)) (plainKind (y .kind))) (eqb (x .name) (y .name)) (f .0) .0)
+
+-- so a View or a Pointer equals nothing of another kind
+pub apart : (d b : List Layer) → mayEqual (outer d) (outer b) ≡ false → equals d b ≡ false
+unfolding outer equals plain identical
+apart [] b e = absurd (true≢false (sym (or-true (eqb 25 (outer b))) ∙ e))
+apart (x ∷ d) [] e = refl
+apart (x ∷ d) (y ∷ b) e = by-test (equals (x ∷ d) (y ∷ b)) refl
+  where
+    by-test : (t : Bool) → equals (x ∷ d) (y ∷ b) ≡ t → t ≡ false
+    by-test false p = refl
+    by-test true p =
+        let f = neither (eqb (x .kind) (y .kind)) (not (isReference (x .kind))) e in
+        let same = plain-kinds x y (both (sameLayer (plainLayer x) (plainLayer y)) (identical (plain d) (plain b)) p .0) in
+        absurd (eqb-false (x .kind) (y .kind) (f .0) (sym (same-kind (y .kind) (x .kind) (sym same) (not-false (isReference (x .kind)) (f .1)))))
 
 -- what one of three tests gives, if each gives it; and the last of three that follows from each of the others
 any-of : (u v w x : Bool) → (u ≡ true → x ≡ true) → (v ≡ true → x ≡ true) → (w ≡ true → x ≡ true) → (u || v || w) ≡ true → x ≡ true
@@ -77,27 +91,40 @@ one-line x d b = by-tests b (isReference (x .kind)) (eqb (outer b) (x .kind)) (e
         let e = rw (← eqb-true (y .kind) (x .kind) q) at p in
         rw (p, q) (last-of _ _ _ (equals-held y b e d) (sub-held y b e d))
 
--- what is read of a pass is read of the branch that it takes
-of-branch : {A : Type 0} (f : Pass → A) (t u v : Bool) (p q r s : Pass) →
-    f (cond t (cond u p (cond v q r)) s) ≡ cond t (cond u (f p) (cond v (f q) (f r))) (f s)
-of-branch f true true v p q r s = refl
-of-branch f true false true p q r s = refl
-of-branch f true false false p q r s = refl
-of-branch f false u v p q r s = refl
+-- a fact of a pass is one of each branch that it may take
+by-branch : (P : Pass → Type 0) (x : Layer) (d b : List Layer) →
+    (isReference (x .kind) ≡ true → eqb (outer b) (x .kind) ≡ true → P (goesOn (x ∷ d) b 0 (pass d (inside b)))) →
+    (isReference (x .kind) ≡ true → eqb (outer b) (x .kind) ≡ false → equals d b ≡ true → P (ends (x ∷ d) b (comparedBy d b) true)) →
+    (isReference (x .kind) ≡ true → eqb (outer b) (x .kind) ≡ false → equals d b ≡ false →
+    (n : ℕ) → n ≤ comparedBy d b → P (goesOn (x ∷ d) b n (pass d b))) →
+    (isReference (x .kind) ≡ false → P (ends (x ∷ d) b 0 false)) →
+    P (pass (x ∷ d) b)
+unfolding pass
+by-branch P x d b held equal on other =
+    by-tests (isReference (x .kind)) (eqb (outer b) (x .kind)) (mayEqual (outer d) (outer b)) (equals d b) refl refl refl refl
+  where
+    by-tests : (t u m v : Bool) → isReference (x .kind) ≡ t → eqb (outer b) (x .kind) ≡ u → mayEqual (outer d) (outer b) ≡ m → equals d b ≡ v →
+        P (cond t
+        (cond u (goesOn (x ∷ d) b 0 (pass d (inside b)))
+        (cond m (cond v (ends (x ∷ d) b (comparedBy d b) true) (goesOn (x ∷ d) b (comparedBy d b) (pass d b)))
+        (goesOn (x ∷ d) b 0 (pass d b))))
+        (ends (x ∷ d) b 0 false))
+    by-tests false u m v p q r s = other p
+    by-tests true true m v p q r s = held p q
+    by-tests true false true true p q r s = equal p q s
+    by-tests true false true false p q r s = on p q s (comparedBy d b) (omega arith)
+    by-tests true false false v p q r s = on p q (apart d b r) 0 (omega arith)
 
 -- One pass answers it.
 pub pass-answers : (a b : List Layer) → pass a b .yes ≡ subautoderefs a b
 unfolding pass subautoderefs
 pass-answers [] b = refl
 pass-answers (x ∷ d) b =
-    rw (one-line x d b, ← pass-answers d (inside b), ← pass-answers d b) (of-branch (λ p. p .yes) (isReference (x .kind)) (eqb (outer b) (x .kind)) (equals d b) _ _ _ _)
-
--- a fact of each branch that a pass may take is one of the pass
-by-branch : (P : Pass → Type 0) (t u v : Bool) (p q r s : Pass) → P p → P q → P r → P s → P (cond t (cond u p (cond v q r)) s)
-by-branch P true true v p q r s i j k l = i
-by-branch P true false true p q r s i j k l = j
-by-branch P true false false p q r s i j k l = k
-by-branch P false u v p q r s i j k l = l
+    by-branch (λ p. p .yes ≡ subautoderefs (x ∷ d) b) x d b
+    (λ p q. rw (one-line x d b, p, q) (pass-answers d (inside b)))
+    (λ p q r. rw (one-line x d b, p, q, r))
+    (λ p q r n h. rw (one-line x d b, p, q, r) (pass-answers d b))
+    (λ p. rw (one-line x d b, p))
 
 -- It settles a with some type, then what a holds with some type, and so on.
 abbrev pub no-pair : List Layer × List Layer
@@ -117,22 +144,22 @@ pub pass-falls : (a b : List Layer) → Falls a (pass a b .pairs)
 unfolding pass
 pass-falls [] b = falls-end []
 pass-falls (x ∷ d) b =
-    by-branch (λ p. Falls (x ∷ d) (p .pairs)) (isReference (x .kind)) (eqb (outer b) (x .kind)) (equals d b) _ _ _ _
-    (falls-on x d b (pass d (inside b) .pairs) (pass-falls d (inside b)))
-    (falls-on x d b [] (falls-end d))
-    (falls-on x d b (pass d b .pairs) (pass-falls d b))
-    (falls-on x d b [] (falls-end d))
+    by-branch (λ p. Falls (x ∷ d) (p .pairs)) x d b
+    (λ p q. falls-on x d b (pass d (inside b) .pairs) (pass-falls d (inside b)))
+    (λ p q r. falls-on x d b [] (falls-end d))
+    (λ p q r n h. falls-on x d b (pass d b .pairs) (pass-falls d b))
+    (λ p. falls-on x d b [] (falls-end d))
 
 -- So it settles no more pairs than a has layers,
 pub pass-few : (a b : List Layer) → length (pass a b .pairs) ≤ length a
 unfolding pass
 pass-few [] b = omega arith
 pass-few (x ∷ d) b =
-    by-branch (λ p. length (p .pairs) ≤ length (x ∷ d)) (isReference (x .kind)) (eqb (outer b) (x .kind)) (equals d b) _ _ _ _
-    (omega (arith, pass-few d (inside b)))
-    (omega arith)
-    (omega (arith, pass-few d b))
-    (omega arith)
+    by-branch (λ p. length (p .pairs) ≤ length (x ∷ d)) x d b
+    (λ p q. omega (arith, pass-few d (inside b)))
+    (λ p q r. omega arith)
+    (λ p q r n h. omega (arith, pass-few d b))
+    (λ p. omega arith)
 
 -- and none twice.
 pub pass-once : (a b : List Layer) (i j : ℕ) → i < j → j < length (pass a b .pairs) →
@@ -145,13 +172,12 @@ pass-once a b i j h g e =
 -- It compares no more pairs of layers than a holds layers: 15 where a has 16.
 compares-next : (d : List Layer) → ((b : List Layer) → comparedBy d b + pass d b .compared ≤ length d) → (x : Layer) (b : List Layer) →
     pass (x ∷ d) b .compared ≤ length d
-unfolding pass
 compares-next d f x b =
-    by-branch (λ p. p .compared ≤ length d) (isReference (x .kind)) (eqb (outer b) (x .kind)) (equals d b) _ _ _ _
-    (omega (arith, f (inside b)))
-    (omega (arith, f b))
-    (f b)
-    (omega arith)
+    by-branch (λ p. p .compared ≤ length d) x d b
+    (λ p q. omega (arith, f (inside b)))
+    (λ p q r. omega (arith, f b))
+    (λ p q r n h. omega (arith, h, f b))
+    (λ p. omega arith)
 
 compares-both : (d b : List Layer) → comparedBy d b + pass d b .compared ≤ length d
 unfolding comparedBy pass outer inside

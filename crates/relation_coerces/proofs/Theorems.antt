@@ -5,7 +5,6 @@ use mathlib.Core.Bool.{Bool, true, false, cond, _&&_, _||_, or-true, false≢tru
 use mathlib.Core.List.{List, [], _∷_, _++_}
 use Prim.Native.Nat.{ℕ}
 use lib.Dec.{eqb}
-use lib.ListN.{replicate}
 use borrow.Author.Tests.{eqb-true}
 use Rattle.type_numbers.specs.Kind as kind
 use Rattle.type_layers.specs.Layers.{Layer, layer, outer, inside, isReference}
@@ -123,8 +122,14 @@ pub int32-not-into-itself : autoderefs int32 int32 ≡ false
 unfolding autoderefs outer
 int32-not-into-itself = refl
 
--- One pass of sub-autoderefs never compares more pairs of layers than the left type holds; so many it may be: fifteen for
--- fifteen Pointers to an Int32, asked whether they sub-autoderef into Int32.
-pub fifteen-compared : pass (replicate 15 (layer kind.pointer 0 0) ++ int32) int32 .compared ≡ 15
+-- One pass of sub-autoderefs compares at most as many pairs of layers as the left type holds, and so many it may be: 15 of
+-- two types of 16 layers, Pointers and Views in turn.
+abbrev inTurn : ℕ → ℕ → ℕ → List Layer
+inTurn k l leaf = two ++ two ++ two ++ two ++ two ++ two ++ two ++ layer k 0 0 ∷ layer leaf 0 0 ∷ []
+  where
+    two : List Layer
+    two = layer k 0 0 ∷ layer l 0 0 ∷ []
+
+pub fifteen-compared : pass (inTurn kind.pointer kind.view kind.int32) (inTurn kind.view kind.pointer kind.int32) .compared ≡ 15
 unfolding pass comparedBy outer inside equals identical plain
 fifteen-compared = refl

@@ -1,11 +1,15 @@
 -- No rule, but how the code asks sub-autoderefs: in one pass, from a type and another to what both hold. x is the outer
 -- layer of the left type, d is what it holds.
-use mathlib.Core.Bool.{Bool, true, false, cond}
+use mathlib.Core.Bool.{Bool, true, false, cond, not, _||_}
 use mathlib.Core.List.{List, [], _∷_}
 use Prim.Native.Nat.{ℕ, suc, _+_}
 use lib.Dec.{eqb}
 use Rattle.type_layers.specs.Layers.{Layer, outer, inside, isReference}
 use Rattle.relation_equals.specs.Equals.{sameLayer, plainLayer, equals}
+
+-- Whether a type of the outer kind j may equal one of the outer kind l: a View or a Pointer equals only its own kind.
+abbrev pub mayEqual : ℕ → ℕ → Bool
+mayEqual j l = eqb j l || not (isReference j)
 
 -- How many pairs of layers *equals* compares: up to the first two that differ.
 unfoldable pub comparedBy : List Layer → List Layer → ℕ
@@ -26,12 +30,14 @@ ends a b n f = record { yes = f; pairs = (a, b) ∷ []; compared = n }
 abbrev pub goesOn : List Layer → List Layer → ℕ → Pass → Pass
 goesOn a b n p = record { yes = p .yes; pairs = (a, b) ∷ p .pairs; compared = n + p .compared }
 
--- Where b is of the outer kind of a, what both hold is asked. Else whether d equals b, and then d and b.
+-- Where b is of the outer kind of a, what both hold is asked. Else whether d equals b, if it may, and then d and b.
 unfoldable pub pass : List Layer → List Layer → Pass
 pass [] b = record { yes = false; pairs = []; compared = 0 }
 pass (x ∷ d) b =
     cond (isReference (x .kind))
     (cond (eqb (outer b) (x .kind)) (goesOn (x ∷ d) b 0 (pass d (inside b)))
+    (cond (mayEqual (outer d) (outer b))
     (cond (equals d b) (ends (x ∷ d) b (comparedBy d b) true)
-    (goesOn (x ∷ d) b (comparedBy d b) (pass d b))))
+    (goesOn (x ∷ d) b (comparedBy d b) (pass d b)))
+    (goesOn (x ∷ d) b 0 (pass d b))))
     (ends (x ∷ d) b 0 false)

@@ -8,6 +8,7 @@ use type_numbers::Kind;
 ghost use mathlib.Core.Path.{_≡_};
 ghost use Rattle.type_layers.specs.Layers.{layers};
 ghost use Rattle.relation_coerces.specs.Coerces as rules;
+ghost use Rattle.relation_coerces.specs.AsCoded.{mayEqual};
 
 fn is_array_or_struct(k: u64) -> bool
     ensures { λ r. ⌜ r ≡ rules.isArrayOrStruct k ⌝ }
@@ -40,26 +41,32 @@ pub fn can_autoderef_into(a: &[u64], b: &[u64]) -> bool
     false
 }
 
+// Whether a type of the outer kind j may equal one of the outer kind l: a View or a Pointer equals only its own kind.
+fn may_equal(j: u64, l: u64) -> bool
+    ensures { λ r. ⌜ r ≡ mayEqual j l ⌝ }
+{
+    (j == l) | !is_reference(j)
+}
+
 // Whether a View or a Pointer sub-autoderefs into another type. Where both are of one outer kind, only what they hold is
 // asked: whatever equals a View or a Pointer, or sub-autoderefs into it, sub-autoderefs into what that holds.
 pub fn can_subautoderef_into(a: &[u64], b: &[u64]) -> bool
     ensures { λ r. ⌜ r ≡ rules.subautoderefs (layers (now (a .entry))) (layers (now (b .entry))) ⌝ }
 {
-    let mut x = a;
-    let mut y = b;
-    while 3 <= x.len() {
-        let k = x[0];
-        if !is_reference(k) {
-            return false;
-        }
-        let d = &x[3..];
-        if outer(y) == k {
-            let held = inner(y);
-            y = held;
-        } else if equals(d, y) {
-            return true;
-        }
-        x = d;
+    if a.len() < 3 {
+        return false;
     }
-    false
+    let k = a[0];
+    if !is_reference(k) {
+        return false;
+    }
+    let d = &a[3..];
+    let l = outer(b);
+    if l == k {
+        return can_subautoderef_into(d, inner(b));
+    }
+    if may_equal(outer(d), l) {
+        return equals(d, b) || can_subautoderef_into(d, b);
+    }
+    can_subautoderef_into(d, b)
 }

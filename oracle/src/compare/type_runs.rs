@@ -14,7 +14,7 @@ pub fn compare(tallies: &mut Tallies, scale: u64, seed: u64) {
     random(tallies, scale, &mut Random::new(seed));
 }
 
-/// Every small type and every pair of small types.
+/// Every small type, and every pair of small types and of those that autoderefs asks again and again about.
 fn small(tallies: &mut Tallies) {
     let layers = all_layers();
     for outer in &layers {
@@ -26,7 +26,8 @@ fn small(tallies: &mut Tallies) {
     for run in runs_of_three() {
         tallies.ask_one(&run);
     }
-    for types in [small_types(&[0, 1], &[0, 1, 3]), types_of_three()] {
+    let small = small_types(&[0, 1], &[0, 1, 3]);
+    for types in [small, types_of_three(), references()] {
         for a in &types {
             for b in &types {
                 tallies.ask_two(a, b);

@@ -109,6 +109,25 @@ pub fn chains(leaf: Layer) -> Vec<Vec<u64>> {
     all
 }
 
+/// Every run of up to six Pointers and Views, around Char8, Uint8 and an Array of Char8.
+pub fn references() -> Vec<Vec<u64>> {
+    let ends = [
+        vec![[CHAR8, 0, 0]],
+        vec![[UINT8, 0, 0]],
+        vec![[ARRAY, 0, 1], [CHAR8, 0, 0]],
+    ];
+    let mut all: Vec<Vec<u64>> = ends.iter().map(|end| words(end)).collect();
+    let mut from = 0;
+    for _ in 0..6 {
+        let inner = all[from..].to_vec();
+        from = all.len();
+        for outer in [[POINTER, 0, 0], [VIEW, 0, 0]] {
+            all.extend(inner.iter().map(|t| [&outer[..], t].concat()));
+        }
+    }
+    all
+}
+
 /// One kind over and over, then another kind, then a leaf.
 pub fn turned_chains() -> Vec<Vec<u64>> {
     let mut all = Vec::new();
