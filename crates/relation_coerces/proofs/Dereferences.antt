@@ -34,7 +34,7 @@ module _ (a b : List ℕ) where
     unfolding subautoderefs
     sub-other q = rw (more a, ← e, not-true t q)
 
-    module _ (q : not t ≡ false) (r : Bool) where
+    module _ (q : not t ≡ false) where
       pub sub-equal : (f : Bool) → f ≡ equals (layers (rest a)) (layers b) → f ≡ true → f ≡ subautoderefs (layers a) (layers b)
       unfolding subautoderefs
       sub-equal f p g = rw (more a, ← e, not-false t q, ← p, g)
@@ -45,11 +45,11 @@ module _ (a b : List ℕ) where
             (cond (equals (layers (rest a)) (layers b)) true (subautoderefs (layers (rest a)) (layers b)))
         line = rw (more a, one-line (head a) (layers (rest a)) (layers b), ← e, not-false t q, ← w)
 
-        pub sub-held : k ≡ getD a 0 0 → (c : List ℕ) → c ≡ innerWords b → r ≡ subautoderefs (layers (rest a)) (layers c) →
+        pub sub-held : k ≡ getD a 0 0 → (c : List ℕ) (r : Bool) → c ≡ innerWords b → r ≡ subautoderefs (layers (rest a)) (layers c) →
             r ≡ subautoderefs (layers a) (layers b)
-        sub-held u c j z = rw (line, eq-eqb k (getD a 0 0) u, ← inner-layers b, ← j) z
+        sub-held u c r j z = rw (line, eq-eqb k (getD a 0 0) u, ← inner-layers b, ← j) z
 
-        module _ (u : k ≡ getD a 0 0 → ⊥) (z : r ≡ subautoderefs (layers (rest a)) (layers b)) where
+        module _ (u : k ≡ getD a 0 0 → ⊥) (r : Bool) (z : r ≡ subautoderefs (layers (rest a)) (layers b)) where
           pub sub-inside : (f : Bool) → f ≡ equals (layers (rest a)) (layers b) → f ≡ false → r ≡ subautoderefs (layers a) (layers b)
           sub-inside f p g = rw (line, ne-eqb k (getD a 0 0) u, ← p, g) z
 

@@ -1,16 +1,16 @@
 -- Sub-autoderefs never has to ask twice: where both types are of one outer kind, one line of the rule follows from each of
--- the others. So one pass answers it; which pairs it settles, and how many layers it compares.
--- Assumes no-pair.
+-- the others. So one pass answers it; which pairs it settles, and how many pairs of layers *equals* compares in it.
+-- Assumes nothing.
 use mathlib.Core.Path.{_≡_, refl, sym, ap, _∙_}
 use mathlib.Core.Bool.{Bool, true, false, cond, not, _&&_, _||_, or-true, or-false, true≢false, false≢true}
-use mathlib.Core.List.{List, [], _∷_}
+use mathlib.Core.List.{List, [], _∷_, _++_}
 use Prim.Native.Nat.{ℕ, zero, suc, _+_, _≤_, _<_}
 use native.Mathlib.Omega.{arith}
 use lib.Dec.{eqb}
 use lib.ListN.{length, drop, getD, length-drop}
 use borrow.Author.Tests.{eq-eqb, eqb-true, eqb-false, not-false}
 use Rattle.type_numbers.specs.Kind as kind
-use Rattle.type_layers.specs.Layers.{Layer, outer, inside, isReference}
+use Rattle.type_layers.specs.Layers.{Layer, layer, outer, inside, isReference}
 use Rattle.type_layers.proofs.Decide.{both, neither}
 use Rattle.relation_equals.specs.Equals.{sameLayer, identical, plainKind, plainLayer, plain, equals}
 use Rattle.relation_coerces.specs.Coerces.{subautoderefs}
@@ -65,13 +65,13 @@ module _ (y : Layer) (b : List Layer) (t : isReference (y .kind) ≡ true) where
       let f = both (sameLayer (plainLayer z) (plainLayer y)) (identical (plain d) (plain b)) e in
       rw (same-kind (z .kind) (y .kind) (plain-kinds z y (f .0)) t, t, f .1)
 
-  sub-held : (d : List Layer) → subautoderefs d (y ∷ b) ≡ true → subautoderefs d b ≡ true
+  into-held : (d : List Layer) → subautoderefs d (y ∷ b) ≡ true → subautoderefs d b ≡ true
   unfolding outer inside subautoderefs
-  sub-held [] e = e
-  sub-held (z ∷ d) e =
+  into-held [] e = e
+  into-held (z ∷ d) e =
       let f = both (isReference (z .kind)) (equals d (y ∷ b) || subautoderefs d (y ∷ b) || eqb (y .kind) (z .kind) && subautoderefs d b) e in
       let last : (eqb (y .kind) (z .kind) && subautoderefs d b) ≡ true → subautoderefs d b ≡ true = λ g. both (eqb (y .kind) (z .kind)) (subautoderefs d b) g .1 in
-      let s = any-of _ _ _ (subautoderefs d b) (equals-held d) (sub-held d) last (f .1) in
+      let s = any-of _ _ _ (subautoderefs d b) (equals-held d) (into-held d) last (f .1) in
       rw (f .0, s, or-true)
 
 -- So sub-autoderefs asks of one other pair at most: what both hold, where they are of one kind, or else d and b.
@@ -89,9 +89,9 @@ one-line x d b = by-tests b (isReference (x .kind)) (eqb (outer b) (x .kind)) (e
     by-tests [] true true v p q r = absurd (false≢true (rw (← eqb-true 25 (x .kind) q) at p))
     by-tests (y ∷ b) true true v p q r =
         let e = rw (← eqb-true (y .kind) (x .kind) q) at p in
-        rw (p, q) (last-of _ _ _ (equals-held y b e d) (sub-held y b e d))
+        rw (p, q) (last-of _ _ _ (equals-held y b e d) (into-held y b e d))
 
--- a fact of a pass is one of each branch that it may take
+-- a fact of each branch that a pass may take is one of the pass
 by-branch : (P : Pass → Type 0) (x : Layer) (d b : List Layer) →
     (isReference (x .kind) ≡ true → eqb (outer b) (x .kind) ≡ true → P (goesOn (x ∷ d) b 0 (pass d (inside b)))) →
     (isReference (x .kind) ≡ true → eqb (outer b) (x .kind) ≡ false → equals d b ≡ true → P (ends (x ∷ d) b (comparedBy d b) true)) →
@@ -150,7 +150,7 @@ pass-falls (x ∷ d) b =
     (λ p q r n h. falls-on x d b (pass d b .pairs) (pass-falls d b))
     (λ p. falls-on x d b [] (falls-end d))
 
--- So it settles no more pairs than a has layers,
+-- It settles no more pairs than a has layers,
 pub pass-few : (a b : List Layer) → length (pass a b .pairs) ≤ length a
 unfolding pass
 pass-few [] b = omega arith
@@ -169,7 +169,7 @@ pass-once a b i j h g e =
     let same : length (drop i a) ≡ length (drop j a) = ap length (sym (pass-falls a b i (omega (arith, h, g))) ∙ ap (λ p. p .0) e ∙ pass-falls a b j g) in
     omega (arith, h, g, few, same, length-drop i a, length-drop j a)
 
--- It compares no more pairs of layers than a holds layers: 15 where a has 16.
+-- In it *equals* compares no more pairs of layers than a holds layers: 15 where a has 16.
 compares-next : (d : List Layer) → ((b : List Layer) → comparedBy d b + pass d b .compared ≤ length d) → (x : Layer) (b : List Layer) →
     pass (x ∷ d) b .compared ≤ length d
 compares-next d f x b =
@@ -197,3 +197,14 @@ compares-both (z ∷ d) (y ∷ b) =
 
 pub pass-compares : (x : Layer) (d b : List Layer) → pass (x ∷ d) b .compared ≤ length d
 pass-compares x d b = compares-next d (compares-both d) x b
+
+-- So many it may be: of two types of 16 layers, Pointers and Views in turn.
+abbrev inTurn : ℕ → ℕ → List Layer
+inTurn k l = two ++ two ++ two ++ two ++ two ++ two ++ two ++ layer k 0 0 ∷ layer kind.int32 0 0 ∷ []
+  where
+    two : List Layer
+    two = layer k 0 0 ∷ layer l 0 0 ∷ []
+
+pub fifteen-compared : pass (inTurn kind.pointer kind.view) (inTurn kind.view kind.pointer) .compared ≡ 15
+unfolding pass comparedBy outer inside equals identical plain
+fifteen-compared = refl

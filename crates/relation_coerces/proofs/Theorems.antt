@@ -2,16 +2,15 @@
 -- Assumes nothing.
 use mathlib.Core.Path.{_≡_, refl, sym, subst, _∙_}
 use mathlib.Core.Bool.{Bool, true, false, cond, _&&_, _||_, or-true, false≢true}
-use mathlib.Core.List.{List, [], _∷_, _++_}
+use mathlib.Core.List.{List, [], _∷_}
 use Prim.Native.Nat.{ℕ}
 use lib.Dec.{eqb}
 use borrow.Author.Tests.{eqb-true}
 use Rattle.type_numbers.specs.Kind as kind
 use Rattle.type_layers.specs.Layers.{Layer, layer, outer, inside, isReference}
-use Rattle.relation_equals.specs.Equals.{identical, plain, equals}
+use Rattle.relation_equals.specs.Equals.{identical, equals}
 use Rattle.relation_equals.proofs.Theorems.{identical-equals, equals-reflexive}
 use Rattle.relation_coerces.specs.Coerces.{hasLength, intoSlice, intoEndlessArray, structIntoView, coerces, addressCoerces, isArrayOrStruct, viewAutoderefs, pointerAutoderefs, autoderefs}
-use Rattle.relation_coerces.specs.AsCoded.{comparedBy, pass}
 
 -- the pairs of kinds of which a value may coerce
 abbrev listed : ℕ → ℕ → ℕ → Bool
@@ -121,15 +120,3 @@ int32 = layer kind.int32 0 0 ∷ []
 pub int32-not-into-itself : autoderefs int32 int32 ≡ false
 unfolding autoderefs outer
 int32-not-into-itself = refl
-
--- One pass of sub-autoderefs compares at most as many pairs of layers as the left type holds, and so many it may be: 15 of
--- two types of 16 layers, Pointers and Views in turn.
-abbrev inTurn : ℕ → ℕ → ℕ → List Layer
-inTurn k l leaf = two ++ two ++ two ++ two ++ two ++ two ++ two ++ layer k 0 0 ∷ layer leaf 0 0 ∷ []
-  where
-    two : List Layer
-    two = layer k 0 0 ∷ layer l 0 0 ∷ []
-
-pub fifteen-compared : pass (inTurn kind.pointer kind.view kind.int32) (inTurn kind.view kind.pointer kind.int32) .compared ≡ 15
-unfolding pass comparedBy outer inside equals identical plain
-fifteen-compared = refl

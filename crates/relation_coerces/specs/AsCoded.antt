@@ -17,7 +17,7 @@ comparedBy [] b = 0
 comparedBy (x ∷ a) [] = 0
 comparedBy (x ∷ a) (y ∷ b) = suc (cond (sameLayer (plainLayer x) (plainLayer y)) (comparedBy a b) 0)
 
--- What a pass answers, the pairs of types that it settles, and how many pairs of layers it compares in all.
+-- What a pass answers, the pairs of types that it settles, and how many pairs of layers *equals* compares in it.
 pub record Pass : Type 0 where
   pub yes : Bool
   pub pairs : List (List Layer × List Layer)

@@ -37,7 +37,8 @@ pub struct Measured {
     pub ratio: [f64; 3],
 }
 
-/// How many rounds, how long each side runs in one, and how many are enough where one is far longer.
+/// How many rounds, how long each side runs in one, and how many rounds are enough where going over the
+/// questions once is far longer than that.
 #[derive(Clone, Copy)]
 pub struct Length {
     pub rounds: usize,
@@ -45,7 +46,7 @@ pub struct Length {
     pub enough: usize,
 }
 
-/// A round that takes longer than this is far longer.
+/// What is far longer.
 const LONG: Duration = Duration::from_millis(100);
 
 /// A side whose calls leave everything as it was: `run` makes them once.
@@ -91,8 +92,8 @@ fn times(side: &mut Side, length: Length) -> (usize, usize) {
     let mut times = 1;
     loop {
         let spent = side(times).time.max(Duration::from_nanos(1));
-        if spent > LONG {
-            return (times, length.enough);
+        if times == 1 && spent > LONG {
+            return (1, length.enough);
         }
         if spent * 4 >= length.round {
             let fit = times as f64 * length.round.as_secs_f64() / spent.as_secs_f64();
@@ -138,7 +139,7 @@ fn undisturbed(side: &mut Side, times: usize) -> f64 {
         let (start, own) = (Instant::now(), own_time());
         spent = side(times);
         let (all, own) = (start.elapsed(), own_time() - own);
-        if all < own + own / 20 || all > LONG {
+        if all < own + own / 20 || own > LONG {
             break;
         }
     }
@@ -147,10 +148,10 @@ fn undisturbed(side: &mut Side, times: usize) -> f64 {
 
 /// Each round runs both sides, ours first in every other one, and gives one ratio.
 pub fn measure(row: &mut Row, length: Length) -> Measured {
-    let (ours, rounds) = times(&mut row.ours, length);
-    let (original, enough) = times(&mut row.original, length);
+    let (ours, our_rounds) = times(&mut row.ours, length);
+    let (original, its_rounds) = times(&mut row.original, length);
     let mut all = [Vec::new(), Vec::new(), Vec::new()];
-    for round in 0..rounds.min(enough) {
+    for round in 0..our_rounds.min(its_rounds) {
         let (a, b);
         if round % 2 == 0 {
             a = undisturbed(&mut row.ours, ours);

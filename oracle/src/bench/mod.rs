@@ -19,7 +19,7 @@ const ROUND: Duration = Duration::from_millis(1);
 const FULL: Length = Length {
     rounds: 301,
     round: ROUND,
-    enough: 3,
+    enough: 5,
 };
 
 const QUICK: Length = Length {

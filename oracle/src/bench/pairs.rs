@@ -106,23 +106,9 @@ fn table<'a>(
     pairs: &'a [Pair],
     calls: usize,
 ) -> Row<'a> {
-    let mut yes = 0;
-    for relation in asked {
-        for (a, b) in pairs {
-            let original = (relation.original)(&a.original, &b.original);
-            let raw = call(relation.ours, a, b);
-            let own = (raw.refusal, raw.value);
-            assert!(
-                own == (0, original.into()),
-                "{what}: {:?}",
-                (&a.words, &b.words)
-            );
-            yes += usize::from(original);
-        }
-    }
     Row {
+        yes: (answered(&what, asked, pairs), asked.len() * pairs.len()),
         what,
-        yes: (yes, asked.len() * pairs.len()),
         aim,
         ours: repeated(calls, move || {
             let asked = black_box(asked);
@@ -141,6 +127,25 @@ fn table<'a>(
             }
         }),
     }
+}
+
+/// How many are answered yes, by both sides.
+fn answered(what: &str, asked: &[Relation], pairs: &[Pair]) -> usize {
+    let mut yes = 0;
+    for relation in asked {
+        for (a, b) in pairs {
+            let original = (relation.original)(&a.original, &b.original);
+            let raw = call(relation.ours, a, b);
+            let own = (raw.refusal, raw.value);
+            assert!(
+                own == (0, original.into()),
+                "{what}: {:?}",
+                (&a.words, &b.words)
+            );
+            yes += usize::from(original);
+        }
+    }
+    yes
 }
 
 fn call(entry: Ours, a: &Type, b: &Type) -> Raw {
@@ -171,7 +176,7 @@ fn some_pairs(random: &mut Random, relation: Relation, layers: usize) -> Vec<Pai
 
 const INT32: u64 = 3;
 const INT64: u64 = 4;
-const PLAIN: [u64; 2] = [POINTER, POINTER];
+const ALL_POINTERS: [u64; 2] = [POINTER, POINTER];
 
 /// A leaf under layers of two kinds in turn.
 fn chain(kinds: [u64; 2], layers: usize, leaf: u64) -> Type {
@@ -185,22 +190,28 @@ type Shape = (&'static str, fn(usize) -> Pair);
 
 const SHAPES: [Shape; 7] = [
     ("Pointers into the same", |n| {
-        (chain(PLAIN, n, INT32), chain(PLAIN, n, INT32))
+        (chain(ALL_POINTERS, n, INT32), chain(ALL_POINTERS, n, INT32))
     }),
     ("Pointers around another leaf", |n| {
-        (chain(PLAIN, n, INT32), chain(PLAIN, n, INT64))
+        (chain(ALL_POINTERS, n, INT32), chain(ALL_POINTERS, n, INT64))
     }),
     ("Pointers into half as many", |n| {
-        (chain(PLAIN, n, INT32), chain(PLAIN, n / 2, INT32))
+        (
+            chain(ALL_POINTERS, n, INT32),
+            chain(ALL_POINTERS, n / 2, INT32),
+        )
     }),
     ("Pointers into half as many around another leaf", |n| {
-        (chain(PLAIN, n, INT32), chain(PLAIN, n / 2, INT64))
+        (
+            chain(ALL_POINTERS, n, INT32),
+            chain(ALL_POINTERS, n / 2, INT64),
+        )
     }),
     ("Pointers into their leaf", |n| {
-        (chain(PLAIN, n, INT32), chain(PLAIN, 1, INT32))
+        (chain(ALL_POINTERS, n, INT32), chain(ALL_POINTERS, 1, INT32))
     }),
     ("Pointers into a View of a leaf", |n| {
-        (chain(PLAIN, n, INT32), chain([VIEW, VIEW], 2, INT64))
+        (chain(ALL_POINTERS, n, INT32), chain([VIEW, VIEW], 2, INT64))
     }),
     ("Pointers and Views in turn into Views and Pointers", |n| {
         (

@@ -14,7 +14,7 @@ pub fn compare(tallies: &mut Tallies, scale: u64, seed: u64) {
     random(tallies, scale, &mut Random::new(seed));
 }
 
-/// Every small type, and every pair of small types and of those that autoderefs asks again and again about.
+/// Every small type, and every pair of small types and of runs of Pointers and Views.
 fn small(tallies: &mut Tallies) {
     let layers = all_layers();
     for outer in &layers {
