@@ -13,6 +13,7 @@ use Rattle.type_numbers.specs.Kind as kind
 use Rattle.type_layers.specs.Layers.{Layer, layer, outer, inside, isReference}
 use Rattle.type_layers.proofs.Decide.{both, neither}
 use Rattle.relation_equals.specs.Equals.{sameLayer, identical, plainKind, plainLayer, plain, equals}
+use Rattle.relation_equals.proofs.Theorems.{same-layers}
 use Rattle.relation_coerces.specs.Coerces.{subautoderefs}
 use Rattle.relation_coerces.specs.AsCoded.{mayEqual, comparedBy, Pass, ends, goesOn, pass}
 
@@ -27,9 +28,7 @@ same-kind k l e t = by-alias (eqb k kind.char8) (eqb l kind.char8) refl refl e
 
 -- two layers that equals takes for the same
 plain-kinds : (x y : Layer) → sameLayer (plainLayer x) (plainLayer y) ≡ true → plainKind (x .kind) ≡ plainKind (y .kind)
-plain-kinds x y e =
-    let f = both (eqb (plainKind (x .kind)) (plainKind (y .kind)) && eqb (x .name) (y .name)) (eqb (x .number) (y .number)) e in
-    eqb-true (plainKind (x .kind)) (plainKind (y .kind)) (both (eqb (plainKind (x .kind)) (plainKind (y .kind))) (eqb (x .name) (y .name)) (f .0) .0)
+plain-kinds x y e = ap (λ z. z .kind) (same-layers (plainLayer x) (plainLayer y) e)
 
 -- so a View or a Pointer equals nothing of another kind
 pub apart : (d b : List Layer) → mayEqual (outer d) (outer b) ≡ false → equals d b ≡ false

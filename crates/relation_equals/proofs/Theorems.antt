@@ -9,7 +9,7 @@ use Rattle.type_layers.specs.Layers.{Layer, layer}
 use Rattle.type_layers.proofs.Decide.{both}
 use Rattle.relation_equals.specs.Equals.{sameLayer, identical, plain, equals}
 
-same-layers : (x y : Layer) → sameLayer x y ≡ true → x ≡ y
+pub same-layers : (x y : Layer) → sameLayer x y ≡ true → x ≡ y
 same-layers x y e =
     let f = both (eqb (x .kind) (y .kind) && eqb (x .name) (y .name)) (eqb (x .number) (y .number)) e in
     let g = both (eqb (x .kind) (y .kind)) (eqb (x .name) (y .name)) (f .0) in
