@@ -73,7 +73,7 @@ module _ (y : Layer) (b : List Layer) (t : isReference (y .kind) ≡ true) where
       let s = any-of _ _ _ (subautoderefs d b) (equals-held d) (into-held d) last (f .1) in
       rw (f .0, s, or-true)
 
--- So sub-autoderefs asks of one other pair at most: what both hold, where they are of one kind, or else d and b.
+-- So sub-autoderefs need ask of one other pair at most: what both hold, where they are of one kind, or else d and b.
 pub one-line : (x : Layer) (d b : List Layer) →
     subautoderefs (x ∷ d) b
     ≡ cond (isReference (x .kind)) (cond (eqb (outer b) (x .kind)) (subautoderefs d (inside b)) (cond (equals d b) true (subautoderefs d b))) false

@@ -30,6 +30,7 @@ ends a b n f = record { yes = f; pairs = (a, b) ∷ []; compared = n }
 abbrev pub goesOn : List Layer → List Layer → ℕ → Pass → Pass
 goesOn a b n p = record { yes = p .yes; pairs = (a, b) ∷ p .pairs; compared = n + p .compared }
 
+-- "Settle each pair of remaining layers once, in whichever order suits." So the request; a is x ∷ d.
 -- Where b is of the outer kind of a, what both hold is asked. Else whether d equals b, if it may, and then d and b.
 unfoldable pub pass : List Layer → List Layer → Pass
 pass [] b = record { yes = false; pairs = []; compared = 0 }
