@@ -6,7 +6,7 @@ ghost use mathlib.Core.Path.{_≡_};
 ghost use lib.ListN.{length};
 
 // Pointers, one in another, and no leaf.
-fn pointers() -> [u64; 51]
+pub(crate) fn pointers() -> [u64; 51]
     ensures { λ r. ⌜ 51 ≡ length r ⌝ }
 {
     let mut ws = [0u64; 51];

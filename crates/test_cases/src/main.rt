@@ -1,5 +1,6 @@
 // Program: every question about one type and about two, and types fixed, of ordinary words and of the worst.
 // What it writes is held to the stored lines.
+mod bad_words;
 mod fixing;
 mod inputs;
 mod relations;
@@ -13,6 +14,7 @@ fn main() {
     inputs::leaves();
     inputs::nested();
     inputs::arrays();
+    bad_words::bad_words();
     relations::pairs();
     fixing::fixing();
 }

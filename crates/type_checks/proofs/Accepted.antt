@@ -11,10 +11,11 @@ use borrow.Author.Tests.{ltb-false, eqb-true, eqb-false}
 use Rattle.type_layers.specs.Layers.{Layer, layers, outer, holdsInner}
 use Rattle.type_layers.specs.AsCoded.{Whole}
 use Rattle.type_layers.specs.Answer.{Answer, given, refused, isGiven}
-use Rattle.type_checks.specs.Check.{Place, at, nowhere, badCount, goodLayer, badLayer, misplaced, unless, checkOf}
+use Rattle.type_checks.specs.Check.{Place, at, nowhere, badCount, goodLayer, badWord, wordIn, badLayer, misplaced, unless, checkOf}
 use Rattle.type_layers.proofs.Decide.{neither}
 use Rattle.type_layers.proofs.Given.{not-given}
 use Rattle.type_layers.proofs.Spelling.{spelled-length, spelled-layers}
+use Rattle.type_checks.proofs.Theorems.{at-nowhere, nowhere-good}
 use Rattle.type_checks.proofs.Checks.{counted}
 use Rattle.type_checks.proofs.Passing.{counted-by}
 
@@ -23,28 +24,21 @@ unfoldable pub goodLayers : List Layer → Bool
 goodLayers [] = true
 goodLayers (x ∷ a) = goodLayer x && goodLayers a
 
-not-nowhere : (p : ℕ) → at p ≡ nowhere → ⊥
-not-nowhere p e = true≢false (ap place e)
-  where
-    place : Place → Bool
-    place (at q) = true
-    place nowhere = false
-
 no-bad-layer : (p : ℕ) (a : List Layer) → badLayer p a ≡ nowhere → goodLayers a ≡ true
 unfolding goodLayers badLayer
 no-bad-layer p [] e = refl
-no-bad-layer p (x ∷ a) e = by-layer (goodLayer x) refl e (no-bad-layer (p + 1) a)
+no-bad-layer p (x ∷ a) e = by-word (badWord x) refl e (no-bad-layer (p + 1) a)
   where
-    by-layer : (g : Bool) → goodLayer x ≡ g → cond g (badLayer (p + 1) a) (at p) ≡ nowhere → (badLayer (p + 1) a ≡ nowhere → goodLayers a ≡ true) →
-        (g && goodLayers a) ≡ true
-    by-layer true h f i = i f
-    by-layer false h f i = absurd (not-nowhere p f)
+    by-word : (q : Place) → badWord x ≡ q → wordIn p q (badLayer (p + 1) a) ≡ nowhere → (badLayer (p + 1) a ≡ nowhere → goodLayers a ≡ true) →
+        (goodLayer x && goodLayers a) ≡ true
+    by-word nowhere h f i = rw (nowhere-good x h) (i f)
+    by-word (at w) h f i = absurd (at-nowhere (3 * p + w) f)
 
 -- a layer that holds an inner type has one inside, in its place
 pub placed-inside : (p : ℕ) (x : Layer) (a : List Layer) → misplaced p (x ∷ a) ≡ nowhere → holdsInner (x .kind) ≡ true →
     (0 < length a) × (misplaced (p + 1) a ≡ nowhere)
 unfolding misplaced
-placed-inside p x [] e h = absurd (not-nowhere p (rw h at e))
+placed-inside p x [] e h = absurd (at-nowhere p (rw h at e))
 placed-inside p x (y ∷ a) e h = (omega arith, rw h at e)
 
 by-checks : (n : ℕ) (b : Bool) (l m : Place) (c : Answer ℕ) → cond b (refused 1 0) (unless l 2 (unless m 3 c)) ≡ given n →

@@ -11,7 +11,7 @@ use lib.Seq.{drop-drop, getD-drop}
 use borrow.Author.Tests.{ltb-false, eqb-true, eqb-false, eq-eqb, ne-eqb, not-true}
 use Rattle.type_layers.specs.Layers.{Layer, layer, layers, holdsInner}
 use Rattle.type_layers.specs.Answer.{given, refused}
-use Rattle.type_checks.specs.Check.{Place, at, nowhere, badCount, goodLayer, badLayer, misplaced, checkOf}
+use Rattle.type_checks.specs.Check.{Place, at, nowhere, badCount, badWord, badLayer, misplaced, checkOf}
 use Rattle.type_layers.proofs.Words.{none, more-drop}
 
 -- the layer that starts at a word
@@ -96,13 +96,13 @@ ends ws word m k h = by-end (eqb word (length ws)) refl
         let less : word < length ws = omega (arith, eqb-false word (length ws) e) in
         rw (here ws word (omega arith)) tt
 
-module _ (ws : List ℕ) (word place found : ℕ) (i : Passed ws word place found) (h : word < length ws) (good : Bool)
-    (e : good ≡ goodLayer (layerAt ws word)) where
-  pub turn : (next : ℕ) (wrong : Bool) → good ≡ true →
+module _ (ws : List ℕ) (word place found : ℕ) (i : Passed ws word place found) (h : word < length ws)
+    (e : badWord (layerAt ws word) ≡ nowhere) where
+  pub turn : (next : ℕ) (wrong : Bool) →
       wrong ≡ cond (holdsInner (getD ws word 0)) (eqb (word + 3) (length ws)) (not (eqb (word + 3) (length ws))) →
       next ≡ cond (eqb found 16 && wrong) place found → Passed ws (word + 3) (place + 1) next
   unfolding badLayer
-  turn next w f g j =
+  turn next w g j =
       let step = here ws word (omega (arith, i .whole, i .count)) in
       let end = ends ws (word + 3) (i .whole) (omega (arith, i .count)) (omega (arith, i .whole, i .count)) in
       record {
@@ -110,7 +110,7 @@ module _ (ws : List ℕ) (word place found : ℕ) (i : Passed ws word place foun
         whole = i .whole;
         within = omega (arith, i .whole, i .count);
         count = omega (arith, i .count);
-        good = rw (step, ← e, f) at (i .good);
+        good = rw (step, e) at (i .good);
         first =
             rw j
             (sym (merged found place (eqb found 16) w (misplaced (place + 1) (layers (drop (word + 3) ws))) refl (omega (arith, i .few, i .count)))
@@ -123,12 +123,12 @@ unfolding checkOf
 miscounted ws e = rw e
 
 module _ (ws : List ℕ) (place found : ℕ) (c : badCount (length ws) ≡ false) where
-  pub bad : (word : ℕ) (good : Bool) → Passed ws word place found → word < length ws →
-      good ≡ goodLayer (layerAt ws word) → not good ≡ true → refused 2 place ≡ checkOf ws
+  pub bad : (word w : ℕ) → Passed ws word place found → word < length ws →
+      badWord (layerAt ws word) ≡ at w → refused 2 (3 * place + w) ≡ checkOf ws
   unfolding checkOf badLayer
-  bad word good i h e f =
+  bad word w i h e =
       let step = here ws word (omega (arith, i .whole, i .count)) in
-      rw (c, ← i .good, step, ← e, not-true good f)
+      rw (c, ← i .good, step, e)
 
   module _ (word : ℕ) (i : Passed ws word place found) (h : length ws ≤ word) where
     no-bad : nowhere ≡ badLayer 0 (layers ws)

@@ -1,4 +1,5 @@
 -- What the proofs of several functions use.
+pub mod Theorems
 pub mod Within
 pub mod Checks
 pub mod Passing

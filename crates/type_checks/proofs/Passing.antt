@@ -10,8 +10,9 @@ use lib.ListN.{length, getD}
 use borrow.Author.Tests.{ltb-false, le-ltb, eqb-false, eq-eqb, ne-eqb, not-true, not-false}
 use Rattle.type_layers.specs.Layers.{layers, holdsInner}
 use Rattle.type_layers.specs.Answer.{given, refused, isGiven}
-use Rattle.type_checks.specs.Check.{Place, at, nowhere, badCount, goodLayer, badLayer, misplaced, unless, checkOf}
+use Rattle.type_checks.specs.Check.{Place, at, nowhere, badCount, goodLayer, badWord, badLayer, misplaced, unless, checkOf}
 use Rattle.type_layers.proofs.Decide.{both, neither}
+use Rattle.type_checks.proofs.Theorems.{good-nowhere, nowhere-good}
 use Rattle.type_checks.proofs.Checks.{layerAt, Passed, start, turn, miscounted, bad, fine}
 
 -- a misplaced layer is refused, if not for itself
@@ -31,20 +32,24 @@ Fine ws word = Passed ws word (word / 3) 16
 
 module _ (ws : List ℕ) (word : ℕ) (i : Fine ws word) (h : word < length ws) where
   bad-layer : badCount (length ws) ≡ false → goodLayer (layerAt ws word) ≡ false → false ≡ isGiven (checkOf ws)
-  bad-layer c f = rw (← bad ws (word / 3) 16 c word (goodLayer (layerAt ws word)) i h refl (rw f))
+  bad-layer c f = by-word (badWord (layerAt ws word)) refl
+    where
+      by-word : (p : Place) → badWord (layerAt ws word) ≡ p → false ≡ isGiven (checkOf ws)
+      by-word (at w) e = rw (← bad ws (word / 3) 16 c word w i h e)
+      by-word nowhere e = absurd (false≢true (sym f ∙ nowhere-good (layerAt ws word) e))
 
   module _ (f : goodLayer (layerAt ws word) ≡ true) (wrong : Bool)
       (g : wrong ≡ cond (holdsInner (getD ws word 0)) (eqb (word + 3) (length ws)) (not (eqb (word + 3) (length ws)))) where
     bad-place : wrong ≡ true → false ≡ isGiven (checkOf ws)
     bad-place w =
         found-bad ws (word + 3) (word / 3 + 1) (word / 3)
-        (turn ws word (word / 3) 16 i h (goodLayer (layerAt ws word)) refl (word / 3) wrong f g (rw w))
+        (turn ws word (word / 3) 16 i h (good-nowhere (layerAt ws word) f) (word / 3) wrong g (rw w))
         (λ z. omega (arith, i .few))
 
     onward : wrong ≡ false → Fine ws (word + 3)
     onward w =
         let next : (word + 3) / 3 ≡ word / 3 + 1 = omega arith in
-        rw next (turn ws word (word / 3) 16 i h (goodLayer (layerAt ws word)) refl 16 wrong f g (rw w))
+        rw next (turn ws word (word / 3) 16 i h (good-nowhere (layerAt ws word) f) 16 wrong g (rw w))
 
 -- what the code knows before a layer: check 1 may still fail
 pub record Ahead (ws : List ℕ) (word : ℕ) : Type 0 where

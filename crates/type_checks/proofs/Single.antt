@@ -4,11 +4,6 @@ use mathlib.Core.Path.{sym, _∙_}
 use Rattle.type_layers.proofs.Single.{Single}
 use Rattle.type_checks.proofs.type_test.is_type.Kinds as is-type-kinds
 use Rattle.type_checks.proofs.type_test.is_type.Reads as is-type
-use Rattle.type_checks.proofs.good_layers.good_layer.Kinds as good-layer-kinds
-use Rattle.type_checks.proofs.good_layers.good_layer.Reads as good-layer
-
-pub good-layer-single : Single 0 good-layer-kinds.ps good-layer-kinds.r good-layer.Post
-good-layer-single κs a x y s t p q = p ∙ sym q
 
 pub is-type-single : Single 1 is-type-kinds.ps is-type-kinds.r is-type.Post
 is-type-single κs a x y s t p q = p ∙ sym q

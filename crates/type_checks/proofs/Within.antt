@@ -151,13 +151,3 @@ module _ (k n m : ℕ) where
       by-holding : (f : Bool) → holdsInner k ≡ f → Told f
       by-holding true h = rw (apart holdsInner k 20 true h refl, apart holdsInner k 21 true h refl, apart holdsInner k 22 true h refl)
       by-holding false h = by-limit h (ltb k 25) refl
-
--- a layer holds an inner type or is a leaf
-pub either-good : (k n m : ℕ) (a b : Bool) → a ≡ (holdsInner k && goodLayer (layer k n m)) → b ≡ (not (holdsInner k) && goodLayer (layer k n m)) →
-    (a || b) ≡ goodLayer (layer k n m)
-either-good k n m a b p q = rw (p, q) (split (holdsInner k) (goodLayer (layer k n m)))
-  where
-    split : (x y : Bool) → (x && y || not x && y) ≡ y
-    split true true = refl
-    split true false = refl
-    split false y = refl

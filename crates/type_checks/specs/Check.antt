@@ -1,7 +1,7 @@
 -- The checks 1 to 3 of a type's words: "Types are checked 1, 2 (all layers), 3".
 use mathlib.Core.Bool.{Bool, true, cond, not, _&&_, _||_}
 use mathlib.Core.List.{List, [], _∷_}
-use Prim.Native.Nat.{ℕ, _+_, _/_, _%_}
+use Prim.Native.Nat.{ℕ, _+_, _*_, _/_, _%_}
 use lib.Dec.{eqb, leb, ltb}
 use lib.ListN.{length}
 use Rattle.type_numbers.specs.Limit as limit
@@ -10,7 +10,7 @@ use Rattle.type_numbers.specs.Kind as kind
 use Rattle.type_layers.specs.Layers.{Layer, layers, holdsInner}
 use Rattle.type_layers.specs.Answer.{Answer, given, refused}
 
--- The place of the first layer that a check stumbles over, from 0; or none.
+-- The place that a check stumbles over first, from 0; or none.
 pub data Place : Type 0 where
   at : ℕ → Place
   nowhere : Place
@@ -19,7 +19,12 @@ pub data Place : Type 0 where
 abbrev pub badCount : ℕ → Bool
 badCount n = eqb n 0 || ltb limit.typeWords n || not (eqb (n % 3) 0)
 
+-- The three tests of a layer, one for each word. A kind is one of the 25.
+abbrev pub goodKind : Layer → Bool
+goodKind x = ltb (x .kind) kind.none
+
 -- "Name is a u32 value for 15, 20, 21 and a named 22." "Other fields are 0."
+-- And so request e: "Under kind 22 a name is judged as named unless the number is 0."
 abbrev pub named : Layer → Bool
 named x =
     eqb (x .kind) kind.arrayWithNamedLength
@@ -39,13 +44,28 @@ goodNumber x =
 
 -- "2 a bad layer"
 unfoldable pub goodLayer : Layer → Bool
-goodLayer x = ltb (x .kind) kind.none && goodName x && goodNumber x
+goodLayer x = goodKind x && goodName x && goodNumber x
 
+-- The word that is told of a bad layer, by request e: "in it the first bad word, kind before name before number"
+unfoldable pub badWord : Layer → Place
+badWord x =
+    cond (not (goodKind x)) (at 0)
+    (cond (not (goodName x)) (at 1)
+    (cond (not (goodNumber x)) (at 2)
+    nowhere))
+
+-- The place of the bad word of layer p; where there is none, what follows. So request e: "Let refusal 2 give layer and
+-- word, as three times the layer plus the word, both from 0."
+abbrev pub wordIn : ℕ → Place → Place → Place
+wordIn p (at w) c = at (3 * p + w)
+wordIn p nowhere c = c
+
+-- "the first bad layer"
 unfoldable pub badLayer : ℕ → List Layer → Place
 badLayer p [] = nowhere
-badLayer p (x ∷ a) = cond (goodLayer x) (badLayer (p + 1) a) (at p)
+badLayer p (x ∷ a) = wordIn p (badWord x) (badLayer (p + 1) a)
 
--- "3 leaf early or missing": a layer that holds an inner type is never last, a leaf always is.
+-- "3 leaf early or missing": a layer that holds an inner type is never last, a leaf always is. "Refusal 3 keeps the layer."
 unfoldable pub misplaced : ℕ → List Layer → Place
 misplaced p [] = nowhere
 misplaced p (x ∷ []) = cond (holdsInner (x .kind)) (at p) nowhere

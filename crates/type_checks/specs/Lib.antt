@@ -1,1 +1,3 @@
 pub mod Check
+pub mod AsCoded
+pub mod Earlier

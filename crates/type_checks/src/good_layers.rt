@@ -32,10 +32,3 @@ pub(crate) fn good_leaf(k: u64, n: u64, m: u64) -> bool
         & (n <= Limit::NAME))
         | (unresolved & (n == 0) & (m == 0))
 }
-
-// Whether the three words are a layer.
-pub fn good_layer(k: u64, n: u64, m: u64) -> bool
-    ensures { λ r. ⌜ r ≡ goodLayer (layer k n m) ⌝ }
-{
-    good_holder(k, n, m) | good_leaf(k, n, m)
-}

@@ -2,5 +2,4 @@
 mod good_layers;
 mod type_test;
 
-pub use good_layers::good_layer;
 pub use type_test::is_type;

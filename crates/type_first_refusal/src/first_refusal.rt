@@ -1,4 +1,5 @@
-use type_checks::good_layer;
+use crate::bad_word::NO_WORD;
+use crate::bad_word::bad_word;
 use type_checks::is_type;
 use type_layers::Checked;
 use type_layers::holds_inner;
@@ -33,7 +34,7 @@ fn earliest(found: u64, wrong: bool, place: u64) -> u64
     }
 }
 
-// What the checks say first. One pass: a bad layer ends it at once, the first misplaced layer is remembered.
+// What the checks say first. One pass: a bad word ends it at once, the first misplaced layer is remembered.
 fn first_refusal(ws: &[u64]) -> Checked
     ensures { λ r. ⌜ ofChecked r ≡ checkOf (now (ws .entry)) ⌝ }
 {
@@ -49,10 +50,11 @@ fn first_refusal(ws: &[u64]) -> Checked
     let mut misplaced = NOWHERE;
     while at < n {
         let k = ws[at];
-        if !good_layer(k, ws[at + 1], ws[at + 2]) {
+        let word = bad_word(k, ws[at + 1], ws[at + 2]);
+        if word != NO_WORD {
             return Checked::Refused {
                 number: Refusal::BAD_LAYER,
-                place,
+                place: 3 * place + word,
             };
         }
         at += 3;

@@ -142,12 +142,25 @@ pub fn turned_chains() -> Vec<Vec<u64>> {
     all
 }
 
-/// Chains of 1 to 16 layers, each with a bad layer, a leaf or an outer kind in each place.
+/// Chains of 1 to 16 layers, each with a bad layer, a leaf or an outer kind in each place. Of the bad
+/// layers the first bad word is each of the three.
 pub fn spoiled_chains() -> Vec<Vec<u64>> {
+    let spoiled = [
+        [25, 0, 0],
+        [25, 1, 1],
+        [POINTER, 0, 1],
+        [POINTER, 1, 1],
+        [ARRAY, 1, 1],
+        [UNRESOLVED, 1, 0],
+        [UNRESOLVED, 1, 2],
+        [UNRESOLVED, LAST_NAME + 1, 2],
+        [UINT8, 0, 0],
+        [VIEW, 0, 0],
+    ];
     let mut all = Vec::new();
     for count in 1..=16 {
         for place in 0..count {
-            for layer in [[25, 0, 0], [POINTER, 0, 1], [UINT8, 0, 0], [VIEW, 0, 0]] {
+            for layer in spoiled {
                 let mut chain = vec![[POINTER, 0, 0]; count];
                 chain[count - 1] = [CHAR8, 0, 0];
                 chain[place] = layer;

@@ -7,6 +7,9 @@ const HEADING: &str = "words: layers wellformed void integral signed bitfield sl
     | sized struct_member word_member constant variable parameter returned \
     | element pointee viewee dereferenced | known depth min max stored\n";
 
+const BAD_WORDS: &str = "kind at layer, of sixteen: | the names 0 1 4294967295 4294967296, \
+    each with the numbers 0 1 2 18446744073709551615\n";
+
 const PAIRS: &str = "left right: identical equals like declared concretization \
     | coerces address autoderef subautoderef\n";
 
@@ -24,6 +27,8 @@ const POINTER: u64 = 23;
 pub fn cases() -> String {
     let mut lines = String::from(HEADING);
     one_type(&mut lines);
+    lines.push_str(BAD_WORDS);
+    bad_words(&mut lines);
     lines.push_str(PAIRS);
     two_types(&mut lines);
     lines.push_str(FIXES);
@@ -54,6 +59,24 @@ fn one_type(lines: &mut String) {
     }
     for (length, inner, leaf) in ARRAYS {
         report(lines, &[14, 0, length, 14, 0, inner, leaf, 0, 0]);
+    }
+}
+
+/// Every kind and the first number that is none, in three layers of sixteen, with each of its words good
+/// and bad.
+fn bad_words(lines: &mut String) {
+    for (k, layer) in (0..26).flat_map(|k| [0, 7, 15].map(|layer| (k, layer))) {
+        write!(lines, "{k} at {layer}:").unwrap();
+        for name in [0, 1, 4294967295, 4294967296] {
+            lines.push_str(" |");
+            for number in [0, 1, 2, u64::MAX] {
+                let mut words = [POINTER, 0, 0].repeat(16);
+                words[45] = INT32;
+                words[3 * layer..3 * layer + 3].copy_from_slice(&[k, name, number]);
+                write!(lines, " {}", shown(0, &answer(0, &words, &[]))).unwrap();
+            }
+        }
+        lines.push('\n');
     }
 }
 

@@ -1,5 +1,5 @@
-//! A type's words, as document 01 writes them: the checks 1 to 3, and to and from the original's
-//! type. Stored size, which the original has not, is written from document 01 too.
+//! A type's words, as document 01 writes them: the checks 1 to 3, with the place of 2 as document 02's
+//! letter e has it, and to and from the original's type. Stored size, which the original has not, is written from document 01 too.
 
 use super::prelude::{Identifier, ValueType};
 
@@ -56,6 +56,30 @@ pub fn is_good(layer: &Layer) -> bool {
     }
 }
 
+/// The first bad word of a layer, as document 02's letter e has it; none where the layer is good.
+pub fn bad_word(layer: &Layer) -> Option<usize> {
+    let [kind, name, number] = *layer;
+    if kind > VIEW {
+        return Some(0);
+    }
+    let names = match (kind, number) {
+        (NAMED | STRUCT | WORD, _) | (UNRESOLVED, 1..) => 0..=u32::MAX as u64,
+        _ => 0..=0,
+    };
+    let numbers = match kind {
+        ARRAY | WORD => 0..=u64::MAX,
+        UNRESOLVED => 0..=1,
+        _ => 0..=0,
+    };
+    if !names.contains(&name) {
+        Some(1)
+    } else if !numbers.contains(&number) {
+        Some(2)
+    } else {
+        None
+    }
+}
+
 /// Checks 1, 2 and 3: the layers, or the first refusal.
 pub fn check(words: &[u64]) -> Result<Vec<Layer>, Refusal> {
     if words.is_empty() || words.len() > 3 * MOST_LAYERS || words.len() % 3 != 0 {
@@ -63,7 +87,8 @@ pub fn check(words: &[u64]) -> Result<Vec<Layer>, Refusal> {
     }
     let layers: Vec<Layer> = words.chunks(3).map(|w| [w[0], w[1], w[2]]).collect();
     if let Some(place) = layers.iter().position(|layer| !is_good(layer)) {
-        return Err((2, place as u64));
+        let word = bad_word(&layers[place]).expect("a bad layer has a bad word");
+        return Err((2, (3 * place + word) as u64));
     }
     let last = layers.len() - 1;
     let misplaced = |place: usize| is_leaf(layers[place][0]) != (place == last);

@@ -15,6 +15,7 @@ use count::Smoke;
 pub fn smoke() -> (u64, u64) {
     let mut smoke = Smoke::default();
     type_looks::words(&mut smoke);
+    type_looks::bad_words(&mut smoke);
     type_looks::types(&mut smoke);
     function_looks::every_function(&mut smoke);
     relation_looks::relations(&mut smoke);

@@ -3,7 +3,7 @@
 use super::count::Smoke;
 use super::few_types::*;
 use crate::judge::questions::{answer, QUESTIONS};
-use crate::original::words::{check, encode};
+use crate::original::words::{bad_word, check, encode, is_good};
 
 pub fn words(smoke: &mut Smoke) {
     for kind in 0..25 {
@@ -23,14 +23,43 @@ pub fn words(smoke: &mut Smoke) {
     smoke.same("no words", check(&[]), Err((1, 0)));
     smoke.same("four words", check(&[6, 0, 0, 0]), Err((1, 0)));
     smoke.same("17 layers", check(&[23, 0, 0].repeat(17)), Err((1, 0)));
-    smoke.same("kind 25", check(&[23, 0, 0, 25, 0, 0]), Err((2, 1)));
-    smoke.same("2 before 3", check(&[6, 0, 0, 6, 0, 1]), Err((2, 1)));
+    smoke.same("kind 25", check(&[23, 0, 0, 25, 0, 0]), Err((2, 3)));
+    smoke.same("2 before 3", check(&[6, 0, 0, 6, 0, 1]), Err((2, 5)));
     smoke.same(
         "leaf early",
         check(&[23, 0, 0, 6, 0, 0, 23, 0, 0]),
         Err((3, 1)),
     );
     smoke.same("leaf missing", check(&[23, 0, 0, 24, 0, 0]), Err((3, 1)));
+}
+
+/// Which word is told of a bad layer, and that of every layer one is told exactly where it is bad.
+pub fn bad_words(smoke: &mut Smoke) {
+    let over = 1 << 32;
+    let looks = [
+        ("kind before name", [25, 1, 1], Some(0)),
+        ("name before number", [20, over, 1], Some(1)),
+        ("number alone", [20, 7, 1], Some(2)),
+        ("22, a name over u32, number 1", [22, over, 1], Some(1)),
+        ("22, a name over u32, number 2", [22, over, 2], Some(1)),
+        ("22, a good name, number 2", [22, 7, 2], Some(2)),
+        ("22, no name, number 2", [22, 0, 2], Some(2)),
+        ("22, a name, number 0", [22, 7, 0], Some(1)),
+        ("22, a name, number 1", [22, 7, 1], None),
+    ];
+    for (what, layer, word) in looks {
+        smoke.same(what, bad_word(&layer), word);
+    }
+    let fields = [0, 1, 2, over - 1, over, u64::MAX];
+    let layers = (0..27).flat_map(|kind| fields.map(|name| fields.map(|n| [kind, name, n])));
+    let odd = layers
+        .flatten()
+        .find(|layer| is_good(layer) == bad_word(layer).is_some());
+    smoke.same(
+        "a good layer with a bad word, or a bad one without",
+        odd,
+        None,
+    );
 }
 
 pub fn types(smoke: &mut Smoke) {

@@ -1,8 +1,9 @@
 use Prim.Native.Nat.{_-_}
+use native.Mathlib.Omega.{arith}
 use lib.ListN.{length}
 use borrow.Author.Needs.{needs}
-use borrow.Author.Tests.{not-false}
 use Rattle.type_checks.proofs.Checks.{Passed, start, turn, miscounted, bad, fine, leaf}
+use Rattle.type_first_refusal.proofs.Words.{no-word, that-word, small-word}
 use Rattle.type_first_refusal.proofs.first_refusal.first_refusal.Statement.{statement}
 use Rattle.type_first_refusal.proofs.first_refusal.first_refusal.Tie as tie
 
@@ -16,8 +17,8 @@ loop-again : tie.Need-loop-again Inv-loop μ-loop
 loop-again c =
     let d = c .before .before .before in
     let head = d .before .before .before .before .before in
-    turn _ _ _ _ (head .loop .inv) (d .before .before .before .before .loop-test .taken) _ (d .good-layer .ensures)
-    _ _ (not-false _ (c .before .before .if2 .left)) (c .before .is-misplaced .ensures) (c .earliest .ensures)
+    turn _ _ _ _ (head .loop .inv) (d .before .before .before .before .loop-test .taken) (no-word _ _ (d .bad-word .ensures) (c .before .before .if2 .left))
+    _ _ (c .before .is-misplaced .ensures) (c .earliest .ensures)
 
 pub first-refusal-spec : {M : Type 1} → statement M
 first-refusal-spec =
@@ -36,7 +37,9 @@ first-refusal-spec =
     (λ c. search needs)
     (λ c. search needs)
     (λ c κs. search needs)
-    (λ c. search bad)
+    (λ c. let i = c .before .before .before .before .before .before .loop .inv in omega (arith, i .few, i .within, i .count, small-word _ _ (c .before .bad-word .ensures)))
+    (λ c. let i = c .before .before .before .before .before .before .loop .inv in omega (arith, i .few, i .within, i .count, small-word _ _ (c .before .bad-word .ensures)))
+    (λ c. search (bad, that-word))
     (λ c. search needs)
     (λ c κs. search needs)
     (λ c κs. search needs)
