@@ -1,5 +1,6 @@
 //! The proved library and the original, timed on the same questions in one process: `tools/bench`.
 
+mod checks;
 mod fixing;
 mod forms;
 mod measure;
@@ -43,7 +44,8 @@ pub fn bench(quick: bool) {
     println!("\n{count} rows, {missed} miss their aim");
 }
 
-/// Prints a line for each row and for each shape of chain: our nanoseconds a call, and what was asked.
+/// Prints a line for each row, for each shape of chain and for the checks: our nanoseconds a call, and what
+/// was asked.
 pub fn bench_ours() {
     let mut show = |mut row: Row| {
         let ours = measure_ours(&mut row, QUICK);
@@ -51,6 +53,7 @@ pub fn bench_ours() {
     };
     rows(&mut show);
     pairs::chain_rows(&mut show);
+    checks::rows(&mut Random::new(1), &mut show);
 }
 
 fn rows(show: &mut dyn FnMut(Row)) {
