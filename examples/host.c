@@ -34,10 +34,15 @@ static void types(void)
 {
     /* A Pointer to Int32, and then a layer too many: the leaf comes early. */
     const uint64_t early[] = {TJ_POINTER, 0, 0, TJ_INT32, 0, 0, TJ_INT32, 0, 0};
+    /* A Pointer to an Int32 that has a name: layer 1, word 1. */
+    const uint64_t misnamed[] = {TJ_POINTER, 0, 0, TJ_INT32, 5, 0};
+    const tj_answer bad = tj_check(WORDS(misnamed));
     uint64_t size = 7, low = 7, high = 7, made[TJ_TYPE_WORDS] = {0};
 
     say("layers of view", tj_check(WORDS(view)));
     say("layers of early", tj_check(WORDS(early)));
+    say("layers of misnamed", bad);
+    printf("which is layer %" PRIu64 ", word %" PRIu64 "\n", bad.value / 3, bad.value % 3);
     say("array can be a parameter", tj_can_be_parameter(WORDS(array)));
     say("slice can be a parameter", tj_can_be_parameter(WORDS(slice)));
     say("view, fully dereferenced, starts at word", tj_fully_dereferenced(WORDS(view)));
