@@ -2,11 +2,26 @@
 #include "strength.h"
 #include <string.h>
 
+bool placed(uint64_t refusal, uint64_t place)
+{
+    switch (refusal) {
+    case TJ_BAD_LAYER:
+        return place < MOST_WORDS;
+    case TJ_BAD_LEAF:
+    case TJ_NOT_IN_EXTERN:
+        return place < MOST_WORDS / 3;
+    case TJ_NO_STEP_FITS:
+        return place < TJ_MOST_WALKED;
+    default:
+        return refusal < REFUSALS && place == 0;
+    }
+}
+
 bool answered(tj_answer a, uint64_t most)
 {
     if (a.refusal == 0)
         return a.value <= most;
-    return a.refusal < REFUSALS && all_kept();
+    return placed(a.refusal, a.value) && all_kept();
 }
 
 /* A type lent, of so many words. */
@@ -43,6 +58,19 @@ static const one ones[] = {
     {tj_pointer_depth, 15},
 };
 
+/* Of a type that is refused with 2: the layer in question is refused alone, at that word, and those before it
+ * have no bad word. */
+static bool names_its_word(tj_answer a, const uint64_t *t, size_t n)
+{
+    if (a.refusal != TJ_BAD_LAYER)
+        return true;
+    size_t word = a.value % 3, start = a.value - word;
+    if (start >= n)
+        return false;
+    tj_answer alone = tj_check(t + start, 3);
+    return alone.refusal == TJ_BAD_LAYER && alone.value == word && tj_check(t, start).refusal != TJ_BAD_LAYER;
+}
+
 static bool ask_one(size_t which, uint64_t *refusal)
 {
     uint64_t words[ROOM];
@@ -50,7 +78,7 @@ static bool ask_one(size_t which, uint64_t *refusal)
     const uint64_t *t = lent_type(words, &n);
     tj_answer a = ones[which].ask(t, n);
     *refusal = a.refusal;
-    return answered(a, ones[which].most) && kept(0);
+    return answered(a, ones[which].most) && names_its_word(a, t, n) && kept(0);
 }
 
 static tj_answer (*const sizes[])(const uint64_t *, size_t, uint64_t *) = {

@@ -19,7 +19,7 @@ static bool autoderef(size_t which, uint64_t *refusal)
     tj_plan p = tj_autoderef(a, n, s, k, b, m, depth, rounds, l, nt, w, ns, steps, nsteps, type, ntype);
     *refusal = p.refusal;
     if (p.refusal)
-        return p.refusal < REFUSALS && all_kept() && !p.steps && !p.taken && !p.layers && !p.address && !p.coerced;
+        return placed(p.refusal, p.value) && all_kept() && !p.steps && !p.taken && !p.layers && !p.address && !p.coerced;
     bool inputs = kept(0) && kept(1) && kept(2) && kept(3) && kept(4);
     bool outputs = kept_from(5, 32 * p.steps) && kept_from(6, 24 * p.layers);
     return inputs && outputs && p.value == 0 && p.taken <= k / 4 && p.layers >= 1;

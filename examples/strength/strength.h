@@ -52,6 +52,9 @@ extern const size_t operation_count;
 extern const export planning[];
 extern const size_t planning_count;
 
-/* What every answer must be: a number of document 01, and everything lent kept where it is refused. */
+/* What every refusal must be: a number of document 01, with a place that it may have. */
+bool placed(uint64_t refusal, uint64_t place);
+
+/* What every answer must be: at most this, or a refusal, and then everything lent is kept. */
 bool answered(tj_answer a, uint64_t most);
 #endif

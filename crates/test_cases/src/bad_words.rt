@@ -41,8 +41,8 @@ fn names(at: usize, k: u64)
     text(b"\n");
 }
 
-// Every kind, and the first number that is none, in the first, a middle and the last layer, with each of its words good and
-// bad.
+// Every kind, and the first number that is none, in the first, a middle and the last layer, with good and bad names and
+// numbers in every combination.
 pub(crate) fn bad_words() {
     text(b"kind at layer, of sixteen: | the names 0 1 4294967295 4294967296,");
     text(b" each with the numbers 0 1 2 18446744073709551615\n");

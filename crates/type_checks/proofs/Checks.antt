@@ -8,7 +8,7 @@ use native.Mathlib.Omega.{arith}
 use lib.Dec.{eqb, ltb}
 use lib.ListN.{length, drop, getD, length-drop, drop-of-length-le}
 use lib.Seq.{drop-drop, getD-drop}
-use borrow.Author.Tests.{ltb-false, eqb-true, eqb-false, eq-eqb, ne-eqb, not-true}
+use borrow.Author.Tests.{ltb-false, eqb-true, eqb-false, eq-eqb, ne-eqb}
 use Rattle.type_layers.specs.Layers.{Layer, layer, layers, holdsInner}
 use Rattle.type_layers.specs.Answer.{given, refused}
 use Rattle.type_checks.specs.Check.{Place, at, nowhere, badCount, badWord, badLayer, misplaced, checkOf}

@@ -2,16 +2,15 @@
 -- Assumes nothing.
 use mathlib.Core.Path.{_≡_, refl, sym, ap, _∙_}
 use mathlib.Core.Bool.{Bool, true, false, cond, not, _&&_, _||_, true≢false}
-use mathlib.Core.List.{List, [], _∷_, _++_}
-use Prim.Native.Nat.{ℕ, zero, suc, _+_, _*_, _-_, _/_, _^_, _≤_, _<_}
+use mathlib.Core.List.{List, [], _∷_}
+use Prim.Native.Nat.{ℕ, zero, suc, _+_, _*_, _-_, _/_, _%_, _^_, _≤_, _<_}
 use native.Mathlib.Omega.{arith}
-use lib.Dec.{eqb, leb, ltb}
-use lib.ListN.{length}
+use lib.ListN.{length, take, getD}
 use borrow.Author.Tests.{le-leb, lt-leb, le-ltb, ne-eqb}
 use Rattle.type_layers.specs.Layers.{Layer, layer, layers}
 use Rattle.type_layers.specs.Answer.{Answer, given, nothing, refused, isGiven}
 use Rattle.type_checks.specs.Check.{Place, at, nowhere, badCount, goodKind, goodName, goodNumber, goodLayer, badWord, wordIn, badLayer, misplaced, unless, checkOf}
-use Rattle.type_checks.specs.Earlier.{badLayerAlone, earlierCheckOf, layerAlone}
+use Rattle.type_checks.specs.Earlier.{earlierBadLayer, earlierCheckOf, withoutWord}
 
 -- no place was found
 abbrev pub isNowhere : Place → Bool
@@ -106,79 +105,64 @@ module _ (n m : ℕ) where
   unfolding badWord
   unnamed-name z = rw (ne-eqb n 0 z)
 
--- what the place of refusal 2 tells of a run of layers that starts with layer p: the layers before the bad one have no
--- bad word, and it is the first in its layer
-pub record Told (p : ℕ) (a : List Layer) (q : ℕ) : Type 0 where
-  pub before : List Layer
-  pub bad : Layer
-  pub after : List Layer
-  pub word : ℕ
-  pub split : a ≡ before ++ (bad ∷ after)
-  pub good : badLayer p before ≡ nowhere
-  pub first : First word bad
-  pub place : q ≡ 3 * (p + length before) + word
+-- a word is one of three
+pub below-3 : (w : ℕ) (x : Layer) → First w x → w < 3
+below-3 zero x f = omega arith
+below-3 (suc zero) x f = omega arith
+below-3 (suc (suc zero)) x f = omega arith
+below-3 (suc (suc (suc w))) x f = absurd f
 
-told : (p : ℕ) (a : List Layer) (q : ℕ) → badLayer p a ≡ at q → Told p a q
+-- no layer has a bad word
+abbrev pub NoneBad : List Layer → Type 0
+NoneBad [] = Unit
+NoneBad (x ∷ a) = (badWord x ≡ nowhere) × NoneBad a
+
+-- the first bad word: no layer before has one, and in its own layer it is the first
+pub record FirstBad (a : List Layer) (k w : ℕ) : Type 0 where
+  pub there : k < length a
+  pub before : NoneBad (take k a)
+  pub first : First w (getD a k (layer 0 0 0))
+
+first-bad : (p : ℕ) (a : List Layer) (q : ℕ) → badLayer p a ≡ at q → (k : ℕ) × ((w : ℕ) × ((q ≡ 3 * (p + k) + w) × FirstBad a k w))
 unfolding badLayer
-told p [] q e = absurd (at-nowhere q (sym e))
-told p (x ∷ a) q e = by-word (badWord x) refl e (told (p + 1) a q)
+first-bad p [] q e = absurd (at-nowhere q (sym e))
+first-bad p (x ∷ a) q e = by-word (badWord x) refl e (first-bad (p + 1) a q)
   where
-    by-word : (r : Place) → badWord x ≡ r → wordIn p r (badLayer (p + 1) a) ≡ at q → (badLayer (p + 1) a ≡ at q → Told (p + 1) a q) → Told p (x ∷ a) q
-    by-word (at w) f e i =
-        record {
-          before = [];
-          bad = x;
-          after = a;
-          word = w;
-          split = refl;
-          good = refl;
-          first = told-first x w f;
-          place = omega (arith, at-same (3 * p + w) q e);
-        }
-    by-word nowhere f e i =
-        let t = i e in
-        record {
-          before = x ∷ t .before;
-          bad = t .bad;
-          after = t .after;
-          word = t .word;
-          split = ap (λ b. x ∷ b) (t .split);
-          good = rw f (t .good);
-          first = t .first;
-          place = omega (arith, t .place);
-        }
+    by-word : (r : Place) → badWord x ≡ r → wordIn p r (badLayer (p + 1) a) ≡ at q →
+        (badLayer (p + 1) a ≡ at q → (k : ℕ) × ((w : ℕ) × ((q ≡ 3 * (p + 1 + k) + w) × FirstBad a k w))) →
+        (k : ℕ) × ((w : ℕ) × ((q ≡ 3 * (p + k) + w) × FirstBad (x ∷ a) k w))
+    by-word (at w) f e later =
+        (0, (w, (omega (arith, at-same (3 * p + w) q e), record { there = omega arith; before = tt; first = told-first x w f })))
+    by-word nowhere f e later =
+        let t = later e in
+        let b = t .1 .1 .1 in
+        (suc (t .0), (t .1 .0, (omega (arith, t .1 .1 .0), record { there = omega (arith, b .there); before = (f, b .before); first = b .first })))
 
 -- the place without the word
 abbrev layerOf : Place → Place
 layerOf (at q) = at (q / 3)
 layerOf nowhere = nowhere
 
-pub within : (w : ℕ) (x : Layer) → First w x → w < 3
-within zero x f = omega arith
-within (suc zero) x f = omega arith
-within (suc (suc zero)) x f = omega arith
-within (suc (suc (suc w))) x f = absurd f
-
-layer-alone : (p : ℕ) (a : List Layer) → layerOf (badLayer p a) ≡ badLayerAlone p a
-unfolding badLayer badLayerAlone
-layer-alone p [] = refl
-layer-alone p (x ∷ a) = by-word (badWord x) refl (layer-alone (p + 1) a)
+layer-kept : (p : ℕ) (a : List Layer) → layerOf (badLayer p a) ≡ earlierBadLayer p a
+unfolding badLayer earlierBadLayer
+layer-kept p [] = refl
+layer-kept p (x ∷ a) = by-word (badWord x) refl (layer-kept (p + 1) a)
   where
-    by-word : (r : Place) → badWord x ≡ r → layerOf (badLayer (p + 1) a) ≡ badLayerAlone (p + 1) a →
-        layerOf (wordIn p r (badLayer (p + 1) a)) ≡ cond (goodLayer x) (badLayerAlone (p + 1) a) (at p)
+    by-word : (r : Place) → badWord x ≡ r → layerOf (badLayer (p + 1) a) ≡ earlierBadLayer (p + 1) a →
+        layerOf (wordIn p r (badLayer (p + 1) a)) ≡ cond (goodLayer x) (earlierBadLayer (p + 1) a) (at p)
     by-word nowhere e i = rw (nowhere-good x e) i
     by-word (at w) e i =
-        let layer : (3 * p + w) / 3 ≡ p = omega (arith, within w x (told-first x w e)) in
+        let layer : (3 * p + w) / 3 ≡ p = omega (arith, below-3 w x (told-first x w e)) in
         rw (told-exactly x ∙ ap isNowhere e, layer)
 
 module _ (ws : List ℕ) where
   -- but for the word, the checks say what they said before
-  pub as-before : layerAlone (checkOf ws) ≡ earlierCheckOf ws
+  pub as-before : withoutWord (checkOf ws) ≡ earlierCheckOf ws
   unfolding checkOf earlierCheckOf
-  as-before = rw (← layer-alone 0 (layers ws)) (by-checks (badCount (length ws)) (badLayer 0 (layers ws)) (misplaced 0 (layers ws)))
+  as-before = rw (← layer-kept 0 (layers ws)) (by-checks (badCount (length ws)) (badLayer 0 (layers ws)) (misplaced 0 (layers ws)))
     where
       by-checks : (b : Bool) (p r : Place) →
-          layerAlone (cond b (refused 1 0) (unless p 2 (unless r 3 (given (length ws / 3)))))
+          withoutWord (cond b (refused 1 0) (unless p 2 (unless r 3 (given (length ws / 3)))))
           ≡ cond b (refused 1 0) (unless (layerOf p) 2 (unless r 3 (given (length ws / 3))))
       by-checks true p r = refl
       by-checks false (at p) r = refl
@@ -188,15 +172,20 @@ module _ (ws : List ℕ) where
   pub accepts-as-before : isGiven (checkOf ws) ≡ isGiven (earlierCheckOf ws)
   accepts-as-before = alone (checkOf ws) ∙ ap isGiven as-before
     where
-      alone : (x : Answer ℕ) → isGiven x ≡ isGiven (layerAlone x)
+      alone : (x : Answer ℕ) → isGiven x ≡ isGiven (withoutWord x)
       alone (given n) = refl
       alone nothing = refl
       alone (refused n p) = refl
 
   -- the place of 2 tells the first bad word
-  pub word-told : (q : ℕ) → checkOf ws ≡ refused 2 q → Told 0 (layers ws) q
+  pub word-told : (q : ℕ) → checkOf ws ≡ refused 2 q → FirstBad (layers ws) (q / 3) (q % 3)
   unfolding checkOf
-  word-told q e = told 0 (layers ws) q (by-checks (badCount (length ws)) (badLayer 0 (layers ws)) (misplaced 0 (layers ws)) e)
+  word-told q e =
+      let t = first-bad 0 (layers ws) q (by-checks (badCount (length ws)) (badLayer 0 (layers ws)) (misplaced 0 (layers ws)) e) in
+      let small = below-3 (t .1 .0) (getD (layers ws) (t .0) (layer 0 0 0)) (t .1 .1 .1 .first) in
+      let l : q / 3 ≡ t .0 = omega (arith, t .1 .1 .0, small) in
+      let w : q % 3 ≡ t .1 .0 = omega (arith, t .1 .1 .0, small) in
+      rw (l, w) (t .1 .1 .1)
     where
       by-checks : (b : Bool) (p r : Place) → cond b (refused 1 0) (unless p 2 (unless r 3 (given (length ws / 3)))) ≡ refused 2 q → p ≡ at q
       by-checks true p r e = cc

@@ -60,7 +60,7 @@ abbrev pub wordIn : ℕ → Place → Place → Place
 wordIn p (at w) c = at (3 * p + w)
 wordIn p nowhere c = c
 
--- "the first bad layer"
+-- The place of the first bad word in a run that starts with layer p: that of "the first bad layer".
 unfoldable pub badLayer : ℕ → List Layer → Place
 badLayer p [] = nowhere
 badLayer p (x ∷ a) = wordIn p (badWord x) (badLayer (p + 1) a)

@@ -1,3 +1,2 @@
 pub mod Check
-pub mod AsCoded
 pub mod Earlier

@@ -2,18 +2,14 @@
 -- Assumes nothing.
 use mathlib.Core.Path.{_≡_, refl, sym, _∙_}
 use mathlib.Core.Bool.{Bool, true, false, not, _||_}
-use mathlib.Core.List.{List}
-use Prim.Native.Nat.{ℕ, _+_, _*_, _≤_, _<_}
+use Prim.Native.Nat.{ℕ, _≤_, _<_}
 use native.Mathlib.Omega.{arith}
 use lib.Dec.{eqb, leb}
-use lib.ListN.{length}
 use borrow.Author.Tests.{lt-ltb, eq-eqb, ne-eqb, not-true, not-false}
 use Rattle.type_layers.specs.Layers.{Layer, layer}
-use Rattle.type_layers.specs.Answer.{refused}
-use Rattle.type_checks.specs.Check.{Place, at, nowhere, badCount, goodName, goodNumber, badWord, checkOf}
-use Rattle.type_checks.specs.AsCoded.{wordOr3}
-use Rattle.type_checks.proofs.Theorems.{no-kind, told-first, within}
-use Rattle.type_checks.proofs.Checks.{layerAt, Passed, bad}
+use Rattle.type_checks.specs.Check.{Place, at, nowhere, goodName, goodNumber, badWord}
+use Rattle.type_first_refusal.specs.AsCoded.{wordOr3}
+use Rattle.type_checks.proofs.Theorems.{no-kind, told-first, below-3}
 
 -- a number that is neither a length nor a size
 module _ (k m : ℕ) (f : (eqb k 14 || eqb k 21) ≡ false) where
@@ -46,14 +42,14 @@ module _ (x : Layer) (w : ℕ) (e : w ≡ wordOr3 (badWord x)) where
   no-word f = by-word (badWord x) refl (sym e ∙ f)
     where
       by-word : (p : Place) → badWord x ≡ p → wordOr3 p ≡ 3 → p ≡ nowhere
-      by-word (at v) g h = absurd (omega (arith, h, within v x (told-first x v g)))
+      by-word (at v) g h = absurd (omega (arith, h, below-3 v x (told-first x v g)))
       by-word nowhere g h = refl
 
   pub small-word : w ≤ 3
   small-word = rw e (by-word (badWord x) refl)
     where
       by-word : (p : Place) → badWord x ≡ p → wordOr3 p ≤ 3
-      by-word (at v) g = omega (arith, within v x (told-first x v g))
+      by-word (at v) g = omega (arith, below-3 v x (told-first x v g))
       by-word nowhere g = omega arith
 
   pub that-word : (w ≡ 3 → ⊥) → badWord x ≡ at w

@@ -3,7 +3,7 @@ use type_numbers::Limit;
 ghost use mathlib.Core.Path.{_≡_};
 ghost use Rattle.type_layers.specs.Layers.{layer};
 ghost use Rattle.type_checks.specs.Check.{goodName, goodNumber, badWord};
-ghost use Rattle.type_checks.specs.AsCoded.{wordOr3};
+ghost use Rattle.type_first_refusal.specs.AsCoded.{wordOr3};
 
 // No word: a layer has three, from 0.
 pub(crate) const NO_WORD: u64 = 3;
@@ -22,7 +22,7 @@ fn good_name(k: u64, n: u64, m: u64) -> bool
     n <= Limit::NAME
 }
 
-// Whether a layer of this kind may have this number.
+// Whether a layer of this kind may have this number. The name is not looked at.
 fn good_number(k: u64, m: u64) -> bool
     ensures { λ r. ⌜ r ≡ goodNumber (layer k 0 m) ⌝ }
 {

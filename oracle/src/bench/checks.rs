@@ -1,5 +1,5 @@
-//! The checks 1 to 3, which the original has not: types that pass, and the same with their last word bad.
-//! For `tools/bench against` alone.
+//! The checks 1 to 3, which the original has not: types that pass, and the same with a Void that has a
+//! number as their last layer. For `tools/bench against` alone.
 
 use super::measure::{repeated, Row};
 use super::types::{count, formed};

@@ -62,8 +62,8 @@ fn one_type(lines: &mut String) {
     }
 }
 
-/// Every kind and the first number that is none, in three layers of sixteen, with each of its words good
-/// and bad.
+/// Every kind and the first number that is none, in three layers of sixteen, with good and bad names and
+/// numbers in every combination.
 fn bad_words(lines: &mut String) {
     for (k, layer) in (0..26).flat_map(|k| [0, 7, 15].map(|layer| (k, layer))) {
         write!(lines, "{k} at {layer}:").unwrap();

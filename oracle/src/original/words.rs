@@ -1,5 +1,6 @@
 //! A type's words, as document 01 writes them: the checks 1 to 3, with the place of 2 as document 02's
-//! letter e has it, and to and from the original's type. Stored size, which the original has not, is written from document 01 too.
+//! letter e has it, and to and from the original's type. Stored size, which the original has not, is
+//! written from document 01 too.
 
 use super::prelude::{Identifier, ValueType};
 

@@ -1,5 +1,4 @@
 use Prim.Native.Nat.{_-_}
-use native.Mathlib.Omega.{arith}
 use lib.ListN.{length}
 use borrow.Author.Needs.{needs}
 use Rattle.type_checks.proofs.Checks.{Passed, start, turn, miscounted, bad, fine, leaf}
@@ -37,8 +36,8 @@ first-refusal-spec =
     (λ c. search needs)
     (λ c. search needs)
     (λ c κs. search needs)
-    (λ c. let i = c .before .before .before .before .before .before .loop .inv in omega (arith, i .few, i .within, i .count, small-word _ _ (c .before .bad-word .ensures)))
-    (λ c. let i = c .before .before .before .before .before .before .loop .inv in omega (arith, i .few, i .within, i .count, small-word _ _ (c .before .bad-word .ensures)))
+    (λ c. search (needs, small-word _ _ (c .before .bad-word .ensures)))
+    (λ c. search (needs, small-word _ _ (c .before .bad-word .ensures)))
     (λ c. search (bad, that-word))
     (λ c. search needs)
     (λ c κs. search needs)
