@@ -7,9 +7,9 @@ use native.Mathlib.Omega.{arith}
 use lib.Dec.{eqb, leb}
 use borrow.Author.Tests.{lt-ltb, eq-eqb, ne-eqb, not-true, not-false}
 use Rattle.type_layers.specs.Layers.{Layer, layer}
-use Rattle.type_checks.specs.Check.{Place, at, nowhere, goodName, goodNumber, badWord}
+use Rattle.type_checks.specs.Check.{Place, at, nowhere, goodKind, goodName, goodNumber, goodLayer, badWord}
 use Rattle.type_first_refusal.specs.AsCoded.{wordOr3}
-use Rattle.type_checks.proofs.Theorems.{no-kind, told-first, below-3}
+use Rattle.type_checks.proofs.Theorems.{no-kind, good-nowhere, told-first, first-told, below-3}
 
 -- a number that is neither a length nor a size
 module _ (k m : ℕ) (f : (eqb k 14 || eqb k 21) ≡ false) where
@@ -24,18 +24,19 @@ module _ (k n m : ℕ) where
   kind-told l = rw (no-kind k n m l)
 
   module _ (l : k ≤ 24) (f : Bool) (e : f ≡ goodName (layer k n m)) where
+    known : goodKind (layer k n m) ≡ true
+    known = lt-ltb k 25 (omega arith)
+
     pub name-told : not f ≡ true → 1 ≡ wordOr3 (badWord (layer k n m))
-    unfolding badWord
-    name-told h = rw (lt-ltb k 25 (omega arith), ← e, not-true f h)
+    name-told h = rw (first-told (layer k n m) 1 (known, sym e ∙ not-true f h))
 
     module _ (h : not f ≡ false) (g : Bool) (j : g ≡ goodNumber (layer k n m)) where
       pub number-told : not g ≡ true → 2 ≡ wordOr3 (badWord (layer k n m))
-      unfolding badWord
-      number-told i = rw (lt-ltb k 25 (omega arith), ← e, not-false f h, ← j, not-true g i)
+      number-told i = rw (first-told (layer k n m) 2 (known, (sym e ∙ not-false f h, sym j ∙ not-true g i)))
 
       pub none-told : not g ≡ false → 3 ≡ wordOr3 (badWord (layer k n m))
-      unfolding badWord
-      none-told i = rw (lt-ltb k 25 (omega arith), ← e, not-false f h, ← j, not-false g i)
+      unfolding goodLayer
+      none-told i = rw (good-nowhere (layer k n m) (rw (known, ← e, not-false f h, ← j, not-false g i)))
 
 module _ (x : Layer) (w : ℕ) (e : w ≡ wordOr3 (badWord x)) where
   pub no-word : w ≡ 3 → badWord x ≡ nowhere
