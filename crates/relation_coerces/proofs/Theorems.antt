@@ -1,16 +1,17 @@
 -- What follows from the definitions of the coercions and dereferences alone.
 -- Assumes nothing.
 use mathlib.Core.Path.{_≡_, refl, sym, subst, _∙_}
-use mathlib.Core.Bool.{Bool, true, false, cond, _&&_, _||_, or-true, false≢true}
+use mathlib.Core.Bool.{Bool, true, false, cond, _&&_, _||_, or-true, true≢false, false≢true}
 use mathlib.Core.List.{List, [], _∷_}
 use Prim.Native.Nat.{ℕ}
 use lib.Dec.{eqb}
 use borrow.Author.Tests.{eqb-true}
 use Rattle.type_numbers.specs.Kind as kind
+use Rattle.type_numbers.specs.CoercionNumber as number
 use Rattle.type_layers.specs.Layers.{Layer, layer, outer, inside, isReference}
 use Rattle.relation_equals.specs.Equals.{identical, equals}
 use Rattle.relation_equals.proofs.Theorems.{identical-equals, equals-reflexive}
-use Rattle.relation_coerces.specs.Coerces.{hasLength, intoSlice, intoEndlessArray, structIntoView, coerces, addressCoerces, isArrayOrStruct, viewAutoderefs, pointerAutoderefs, autoderefs}
+use Rattle.relation_coerces.specs.Coerces.{hasLength, intoSlice, intoEndlessArray, structIntoView, coerces, addressCoerces, coercion, isArrayOrStruct, viewAutoderefs, pointerAutoderefs, autoderefs}
 
 -- the pairs of kinds of which a value may coerce
 abbrev listed : ℕ → ℕ → ℕ → Bool
@@ -66,6 +67,32 @@ never-both a b = by-answers (coerces a b) (addressCoerces a b) refl refl
     by-answers true true e f = sym (coerces-listed a b e) ∙ address-unlisted a b f
     by-answers true false e f = refl
     by-answers false v e f = refl
+
+-- So the merged answer agrees with each of the two questions: it is as a value exactly where a type coerces,
+answered : (f g : Bool) → (f && g) ≡ false →
+    let n = cond f number.asValue (cond g number.byAddress number.none) in
+    (eqb n number.asValue ≡ f) × (eqb n number.byAddress ≡ g)
+answered true true e = absurd (true≢false e)
+answered true false e = (refl, refl)
+answered false true e = (refl, refl)
+answered false false e = (refl, refl)
+
+pub as-value : (a b : List Layer) → eqb (coercion a b) number.asValue ≡ coerces a b
+unfolding coercion
+as-value a b = answered (coerces a b) (addressCoerces a b) (never-both a b) .0
+
+-- and by address exactly where its address coerces.
+pub by-address : (a b : List Layer) → eqb (coercion a b) number.byAddress ≡ addressCoerces a b
+unfolding coercion
+by-address a b = answered (coerces a b) (addressCoerces a b) (never-both a b) .1
+
+-- one of the two, read off the answer
+module _ (a b : List Layer) (n : ℕ) (r : Bool) (e : n ≡ coercion a b) where
+  pub read-value : r ≡ eqb n number.asValue → r ≡ coerces a b
+  read-value q = q ∙ rw e (as-value a b)
+
+  pub read-address : r ≡ eqb n number.byAddress → r ≡ addressCoerces a b
+  read-address q = q ∙ rw e (by-address a b)
 
 -- a listed pair's left type is of one of the kinds 14-18 and 20
 array-or-struct : (k l m : ℕ) → listed k l m ≡ true → isArrayOrStruct k ≡ true

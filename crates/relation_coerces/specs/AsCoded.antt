@@ -1,11 +1,40 @@
--- No rule, but how the code asks sub-autoderefs: in one pass, from a type and another to what both hold. x is the outer
--- layer of the left type, d is what it holds.
-use mathlib.Core.Bool.{Bool, true, false, cond, not, _||_}
+-- No rule, but how the code finds a coercion, and how it asks sub-autoderefs: in one pass, from a type and another to what
+-- both hold. x is the outer layer of the left type, d is what it holds.
+use mathlib.Core.Bool.{Bool, true, false, cond, not, _&&_, _||_}
 use mathlib.Core.List.{List, [], _∷_}
 use Prim.Native.Nat.{ℕ, suc, _+_}
 use lib.Dec.{eqb}
+use Rattle.type_numbers.specs.Kind as kind
+use Rattle.type_numbers.specs.CoercionNumber as number
 use Rattle.type_layers.specs.Layers.{Layer, outer, inside, isReference}
-use Rattle.relation_equals.specs.Equals.{sameLayer, plainLayer, equals}
+use Rattle.relation_equals.specs.Equals.{sameLayer, identical, plainLayer, equals}
+use Rattle.relation_coerces.specs.Coerces.{hasLength}
+use Rattle.relation_coerces.specs.declared.coercion.Coercion.{Coercion}
+use Rattle.relation_coerces.specs.declared.coercion.Coercion.the-variants as coded
+
+-- Which answer each of the code's is.
+abbrev pub ofCoercion : Coercion → ℕ
+ofCoercion coded.None = number.none
+ofCoercion coded.AsValue = number.asValue
+ofCoercion coded.ByAddress = number.byAddress
+
+-- The answer that the outer kinds k and l leave open.
+abbrev pub openTo : ℕ → ℕ → ℕ
+openTo k l =
+    cond
+    (hasLength k && (eqb l kind.slice || eqb l kind.view)
+    || (eqb k kind.slice || eqb k kind.struct) && eqb l kind.view
+    || eqb k kind.slicePointer && eqb l kind.pointer) number.asValue
+    (cond (hasLength k && (eqb l kind.slicePointer || eqb l kind.pointer)) number.byAddress
+    number.none)
+
+-- Whether what has to be the same is: a Struct and what the View holds, or the two elements.
+unfoldable pub agree : List Layer → List Layer → Bool
+agree a b =
+    cond (eqb (outer a) kind.struct) (identical a (inside b))
+    (cond (isReference (outer b))
+    (cond (eqb (outer (inside b)) kind.endlessArray) (equals (inside a) (inside (inside b))) false)
+    (equals (inside a) (inside b)))
 
 -- Whether a type of the outer kind j may equal one of the outer kind l: a View or a Pointer equals only its own kind.
 abbrev pub mayEqual : ℕ → ℕ → Bool

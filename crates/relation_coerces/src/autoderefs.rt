@@ -1,5 +1,4 @@
-use crate::coerces::can_coerce_address_into;
-use crate::coerces::can_coerce_into;
+use crate::coercion::coerces;
 use relation_equals::equals;
 use type_layers::inner;
 use type_layers::is_reference;
@@ -27,13 +26,13 @@ pub fn can_autoderef_into(a: &[u64], b: &[u64]) -> bool
 {
     let k = outer(a);
     if is_array_or_struct(k) {
-        return equals(a, b) || can_coerce_into(a, b);
+        return equals(a, b) || coerces(a, b).is_as_value();
     }
     if k == Kind::VIEW {
         return equals(a, b) || can_subautoderef_into(a, b);
     }
     if k == Kind::POINTER {
-        if can_coerce_address_into(inner(a), b) {
+        if coerces(inner(a), b).is_by_address() {
             return true;
         }
         return equals(a, b) || can_subautoderef_into(a, b);

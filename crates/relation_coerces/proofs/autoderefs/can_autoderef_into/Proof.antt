@@ -1,4 +1,5 @@
 use borrow.Author.Needs.{needs}
+use Rattle.relation_coerces.proofs.Theorems.{read-value, read-address}
 use Rattle.relation_coerces.proofs.Dereferences.{or-yes, or-no, auto-array, auto-view, auto-address, auto-pointer, auto-other}
 use Rattle.relation_coerces.proofs.autoderefs.can_autoderef_into.Statement.{statement}
 use Rattle.relation_coerces.proofs.autoderefs.can_autoderef_into.Tie as tie
@@ -11,17 +12,19 @@ can-autoderef-into-spec =
     (λ c κs. search needs)
     (λ c κs. search needs)
     (λ c κs. search needs)
+    (λ c κs. search needs)
     (λ c. search (auto-array, or-yes))
-    (λ c. search (auto-array, or-no))
+    (λ c. search (auto-array, or-no, read-value))
     (λ c κs. search needs)
     (λ c κs. search needs)
     (λ c. search (auto-view, or-yes))
     (λ c. search (auto-view, or-no))
     (λ c κs. search needs)
     (λ c κs. search needs)
-    (λ c. search auto-address)
+    (λ c κs. search needs)
+    (λ c. search (auto-address, read-address))
     (λ c κs. search needs)
     (λ c κs. search needs)
-    (λ c. search (auto-pointer, or-yes))
-    (λ c. search (auto-pointer, or-no))
+    (λ c. search (auto-pointer, read-address, or-yes))
+    (λ c. search (auto-pointer, read-address, or-no))
     (λ c. search auto-other))
