@@ -1,5 +1,4 @@
-use relation_coerces::can_coerce_address_into;
-use relation_coerces::can_coerce_into;
+use relation_coerces::coerces;
 use relation_equals::identical;
 use type_layers::inner;
 use type_layers::outer;
@@ -64,8 +63,9 @@ pub fn settle(c: &[u64], t: &[u64], n: u64) -> Settling
     if plainly & (k == Kind::VIEW) & identical(inner(c), t) {
         return Settling::Viewed;
     }
+    let coercion = coerces(c, t);
     // (iii)
-    if plainly & can_coerce_into(c, t) {
+    if plainly & coercion.is_as_value() {
         return Settling::Coerced;
     }
     // (iv)
@@ -77,7 +77,7 @@ pub fn settle(c: &[u64], t: &[u64], n: u64) -> Settling
         return Settling::PointedTo;
     }
     // (vi)
-    if (n > 0) & can_coerce_address_into(c, t) {
+    if (n > 0) & coercion.is_by_address() {
         return Settling::AddressCoerced;
     }
     // (vii)

@@ -3,6 +3,7 @@ use relation_equals::identical;
 use type_layers::inner;
 use type_layers::is_reference;
 use type_layers::outer;
+use type_numbers::CoercionNumber;
 use type_numbers::Kind;
 ghost use mathlib.Core.Path.{_≡_};
 ghost use lib.Dec.{eqb};
@@ -19,6 +20,16 @@ pub enum Coercion {
 }
 
 impl Coercion {
+    pub fn number(self) -> u64
+        ensures { λ r. ⌜ r ≡ as-coded.ofCoercion self ⌝ }
+    {
+        match self {
+            Coercion::None => CoercionNumber::NONE,
+            Coercion::AsValue => CoercionNumber::AS_VALUE,
+            Coercion::ByAddress => CoercionNumber::BY_ADDRESS,
+        }
+    }
+
     pub fn is_as_value(self) -> bool
         ensures { λ r. ⌜ r ≡ eqb (as-coded.ofCoercion self) number.asValue ⌝ }
     {

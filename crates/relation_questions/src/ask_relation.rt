@@ -1,3 +1,5 @@
+use relation_coerces::can_autoderef_into;
+use relation_coerces::can_subautoderef_into;
 use relation_declared::can_be_concretization_of;
 use relation_declared::can_be_declared_as;
 use relation_declared::is_like;
@@ -11,13 +13,15 @@ ghost use Rattle.type_layers.specs.Layers.{layers};
 ghost use Rattle.type_layers.specs.Answer.{ofVerdict};
 ghost use Rattle.relation_questions.specs.Questions as answers;
 
-// The relations that can be asked for.
+// The relations of yes or no that can be asked for.
 pub enum Relation {
     Identical,
     Equals,
     Like,
     DeclaredAs,
     ConcretizationOf,
+    Autoderefs,
+    Subautoderefs,
 }
 
 fn holds(relation: Relation, a: &[u64], b: &[u64]) -> bool
@@ -29,6 +33,8 @@ fn holds(relation: Relation, a: &[u64], b: &[u64]) -> bool
         Relation::Like => is_like(a, b),
         Relation::DeclaredAs => can_be_declared_as(a, b),
         Relation::ConcretizationOf => can_be_concretization_of(a, b),
+        Relation::Autoderefs => can_autoderef_into(a, b),
+        Relation::Subautoderefs => can_subautoderef_into(a, b),
     }
 }
 

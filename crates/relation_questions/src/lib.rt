@@ -2,7 +2,7 @@
 mod ask_coercion;
 mod ask_relation;
 
-pub use ask_coercion::Coercion;
+pub use ask_coercion::CoercionAnswer;
 pub use ask_coercion::coerces;
 pub use ask_relation::Relation;
 pub use ask_relation::relates;

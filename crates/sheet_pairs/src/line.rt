@@ -1,6 +1,5 @@
 use relation_coerces::can_autoderef_into;
-use relation_coerces::can_coerce_address_into;
-use relation_coerces::can_coerce_into;
+use relation_coerces::coerces;
 use relation_declared::can_be_concretization_of;
 use relation_declared::can_be_declared_as;
 use relation_equals::equals;
@@ -18,10 +17,11 @@ fn digit(yes: bool) -> u8
     if yes { 49 } else { 48 }
 }
 
-// The six relations of two types, each behind a space, and the end of the line.
+// The six relations of two types, each behind a space, and the end of the line. Two of them are read off one answer.
 fn answers(a: &[u64], b: &[u64]) -> [u8; 13]
     ensures { λ r. ⌜ r ≡ text.answers (now (a .entry)) (now (b .entry)) ⌝ }
 {
+    let coercion = coerces(a, b);
     [
         32,
         digit(equals(a, b)),
@@ -30,9 +30,9 @@ fn answers(a: &[u64], b: &[u64]) -> [u8; 13]
         32,
         digit(can_be_concretization_of(a, b)),
         32,
-        digit(can_coerce_into(a, b)),
+        digit(coercion.is_as_value()),
         32,
-        digit(can_coerce_address_into(a, b)),
+        digit(coercion.is_by_address()),
         32,
         digit(can_autoderef_into(a, b)),
         10,

@@ -1,4 +1,4 @@
-use relation_coerces::can_coerce_into;
+use relation_coerces::coerces;
 use relation_declared::can_be_concretization_of;
 use relation_declared::can_be_declared_as;
 use relation_equals::identical;
@@ -40,7 +40,7 @@ pub fn decide(
     if authoritative & can_be_declared_as(offered, stored) {
         return Line::TypeReplaced;
     }
-    if newly & (can_be_concretization_of(offered, stored) | can_coerce_into(offered, stored)) {
+    if newly & (can_be_concretization_of(offered, stored) | coerces(offered, stored).is_as_value()) {
         return Line::BothReplaced;
     }
     Line::Conflicting

@@ -85,9 +85,8 @@ fn relation(f: u64, a: &[u64], b: &[u64]) -> Answer {
         25 => trestlejay::tj_is_like(a, b),
         26 => trestlejay::tj_can_be_declared_as(a, b),
         27 => trestlejay::tj_can_be_concretization_of(a, b),
-        28 => trestlejay::tj_can_coerce_into(a, b),
-        29 => trestlejay::tj_can_coerce_address_into(a, b),
-        30 => trestlejay::tj_can_autoderef_into(a, b),
+        28 => trestlejay::tj_coerces(a, b),
+        29 => trestlejay::tj_can_autoderef_into(a, b),
         _ => trestlejay::tj_can_subautoderef_into(a, b),
     }
 }

@@ -48,8 +48,7 @@ use Rattle.trestlejay.proofs.relations.tj_equals.Reads as tj-equals
 use Rattle.trestlejay.proofs.relations.tj_is_like.Reads as tj-is-like
 use Rattle.trestlejay.proofs.relations.tj_can_be_declared_as.Reads as tj-can-be-declared-as
 use Rattle.trestlejay.proofs.relations.tj_can_be_concretization_of.Reads as tj-can-be-concretization-of
-use Rattle.trestlejay.proofs.relations.tj_can_coerce_into.Reads as tj-can-coerce-into
-use Rattle.trestlejay.proofs.relations.tj_can_coerce_address_into.Reads as tj-can-coerce-address-into
+use Rattle.trestlejay.proofs.relations.tj_coerces.Reads as tj-coerces
 use Rattle.trestlejay.proofs.relations.tj_can_autoderef_into.Reads as tj-can-autoderef-into
 use Rattle.trestlejay.proofs.relations.tj_can_subautoderef_into.Reads as tj-can-subautoderef-into
 use Rattle.trestlejay.proofs.fixing.tj_fix_type_for_flags.Reads as tj-fix-type-for-flags
@@ -147,11 +146,8 @@ tj-can-be-declared-as-single κs a x y s t p q = p ∙ sym q
 pub tj-can-be-concretization-of-single : SingleOfPair tj-can-be-concretization-of.Post
 tj-can-be-concretization-of-single κs a x y s t p q = p ∙ sym q
 
-pub tj-can-coerce-into-single : SingleOfPair tj-can-coerce-into.Post
-tj-can-coerce-into-single κs a x y s t p q = p ∙ sym q
-
-pub tj-can-coerce-address-into-single : SingleOfPair tj-can-coerce-address-into.Post
-tj-can-coerce-address-into-single κs a x y s t p q = p ∙ sym q
+pub tj-coerces-single : SingleOfPair tj-coerces.Post
+tj-coerces-single κs a x y s t p q = p ∙ sym q
 
 pub tj-can-autoderef-into-single : SingleOfPair tj-can-autoderef-into.Post
 tj-can-autoderef-into-single κs a x y s t p q = p ∙ sym q

@@ -10,12 +10,16 @@ use Rattle.type_layers.specs.Answer.{next, truth, isGiven}
 use Rattle.type_checks.specs.Check.{checkOf}
 use Rattle.type_layers.proofs.Decide.{both}
 use Rattle.type_checks.proofs.Refusals.{passed}
-use Rattle.relation_questions.specs.Questions.{relates, relationAnswer, passes, coercionAnswer}
+use Rattle.relation_coerces.specs.Coerces.{coercion}
+use Rattle.relation_questions.specs.Questions.{relates, relationAnswer, coercionAnswer, ofCoercionAnswer}
+use Rattle.relation_coerces.specs.AsCoded.{ofCoercion}
+use Rattle.relation_coerces.specs.declared.coercion.Coercion.{Coercion}
 use Rattle.relation_questions.specs.declared.ask_relation.Relation.{Relation}
-use Rattle.relation_questions.specs.declared.ask_coercion.Coercion.{Coercion}
+use Rattle.relation_questions.specs.declared.ask_coercion.CoercionAnswer.{CoercionAnswer}
+use Rattle.relation_questions.specs.declared.ask_coercion.CoercionAnswer.the-variants as answer
 use Rattle.type_bounds.specs.declared.bound.Halves.{Halves}
 use Rattle.write_answer.specs.declared.answer.Answer.{Answer}
-use Rattle.write_answer.specs.Flat.{accepted, flat}
+use Rattle.write_answer.specs.Flat.{accepted, notAccepted, flat}
 use Rattle.face_measures.specs.Measured.{flatFound, foundAfter, flatHalves, lowAfter, highAfter}
 
 module _ (a b : paper.Answer ℕ) (e : a ≡ b) where
@@ -46,17 +50,31 @@ pub no-told : (f : Bool) (r : Answer) → f ≡ false → r ≡ accepted 0 → r
 unfolding flat
 no-told f r e q = rw e q
 
+number-told : (n : ℕ) (r : Answer) → r ≡ accepted n → r ≡ flat (paper.given n)
+unfolding flat
+number-told n r q = q
+
+-- the answer to the coercion question, by what was found
+module _ (x : CoercionAnswer) (r : Answer) where
+  pub coercion-given : (c : Coercion) (n : ℕ) → x ≡ answer.Given c → n ≡ ofCoercion c → r ≡ accepted n → r ≡ flat (ofCoercionAnswer x)
+  unfolding flat
+  coercion-given c n e f q = rw (e, ← f) q
+
+  pub coercion-refused : (n p : ℕ) → x ≡ answer.Refused n p → r ≡ notAccepted n p → r ≡ flat (ofCoercionAnswer x)
+  unfolding flat
+  coercion-refused n p e q = rw e q
+
 -- both are types: no refusal comes before what follows
-module _ (a b : List ℕ) (g f : Bool) (r : Answer) (p : g ≡ (isGiven (checkOf a) && isGiven (checkOf b))) (h : g ≡ true) (q : r ≡ flat (truth f)) where
-  follows : next (checkOf a) (next (checkOf b) (truth f)) ≡ truth f
-  follows =
+module _ (a b : List ℕ) (g : Bool) (r : Answer) (p : g ≡ (isGiven (checkOf a) && isGiven (checkOf b))) (h : g ≡ true) where
+  follows : (t : paper.Answer ℕ) → next (checkOf a) (next (checkOf b) t) ≡ t
+  follows t =
       let e = both (isGiven (checkOf a)) (isGiven (checkOf b)) (sym p ∙ h) in
       passed (checkOf a) _ (e .0) ∙ passed (checkOf b) _ (e .1)
 
-  pub relation-direct : (w : Relation) → f ≡ relates w (layers a) (layers b) → r ≡ flat (relationAnswer w a b)
+  pub relation-direct : (f : Bool) → r ≡ flat (truth f) → (w : Relation) → f ≡ relates w (layers a) (layers b) → r ≡ flat (relationAnswer w a b)
   unfolding relationAnswer
-  relation-direct w e = q ∙ ap flat (rw (← e) (sym follows))
+  relation-direct f q w e = q ∙ ap flat (rw (← e) (sym (follows (truth f))))
 
-  pub coercion-direct : (w : Coercion) → f ≡ passes w (layers a) (layers b) → r ≡ flat (coercionAnswer w a b)
+  pub coercion-direct : (n : ℕ) → r ≡ accepted n → (m : ℕ) → n ≡ m → m ≡ coercion (layers a) (layers b) → r ≡ flat (coercionAnswer a b)
   unfolding coercionAnswer
-  coercion-direct w e = q ∙ ap flat (rw (← e) (sym follows))
+  coercion-direct n q m e f = number-told n r q ∙ ap flat (rw (← f, ← e) (sym (follows (paper.given n))))

@@ -1,14 +1,15 @@
-use relation_questions::Coercion;
+use relation_questions::CoercionAnswer;
 use relation_questions::Relation;
 use type_checks::is_type;
 use write_answer::Answer;
 use write_answer::accepted;
+use write_answer::refused;
 use write_answer::verdict;
 ghost use mathlib.Core.Path.{_≡_};
 ghost use mathlib.Core.Bool.{_&&_};
 ghost use Rattle.type_layers.specs.Answer.{truth, isGiven};
 ghost use Rattle.type_checks.specs.Check.{checkOf};
-ghost use Rattle.relation_questions.specs.Questions.{coercionAnswer, relationAnswer};
+ghost use Rattle.relation_questions.specs.Questions.{coercionAnswer, ofCoercionAnswer, relationAnswer};
 ghost use Rattle.write_answer.specs.Flat.{flat};
 
 // Whether both are types. Nearly all that are asked about are, and of those no refusal has to be told.
@@ -74,42 +75,41 @@ pub extern "C" fn tj_can_be_concretization_of(a: &[u64], b: &[u64]) -> Answer
     verdict(relation_questions::relates(Relation::ConcretizationOf, a, b))
 }
 
-#[no_mangle]
-pub extern "C" fn tj_can_coerce_into(a: &[u64], b: &[u64]) -> Answer
-    ensures { λ r. ⌜ r ≡ flat (coercionAnswer Coercion.Value (now (a .entry)) (now (b .entry))) ⌝ }
+fn coercion_told(answer: CoercionAnswer) -> Answer
+    ensures { λ r. ⌜ r ≡ flat (ofCoercionAnswer answer) ⌝ }
 {
-    if are_types(a, b) {
-        return told(relation_coerces::can_coerce_into(a, b));
+    match answer {
+        CoercionAnswer::Given(coercion) => accepted(coercion.number()),
+        CoercionAnswer::Refused { number, place } => refused(number, place),
     }
-    verdict(relation_questions::coerces(Coercion::Value, a, b))
 }
 
 #[no_mangle]
-pub extern "C" fn tj_can_coerce_address_into(a: &[u64], b: &[u64]) -> Answer
-    ensures { λ r. ⌜ r ≡ flat (coercionAnswer Coercion.Address (now (a .entry)) (now (b .entry))) ⌝ }
+pub extern "C" fn tj_coerces(a: &[u64], b: &[u64]) -> Answer
+    ensures { λ r. ⌜ r ≡ flat (coercionAnswer (now (a .entry)) (now (b .entry))) ⌝ }
 {
     if are_types(a, b) {
-        return told(relation_coerces::can_coerce_address_into(a, b));
+        return accepted(relation_coerces::coerces(a, b).number());
     }
-    verdict(relation_questions::coerces(Coercion::Address, a, b))
+    coercion_told(relation_questions::coerces(a, b))
 }
 
 #[no_mangle]
 pub extern "C" fn tj_can_autoderef_into(a: &[u64], b: &[u64]) -> Answer
-    ensures { λ r. ⌜ r ≡ flat (coercionAnswer Coercion.Autoderef (now (a .entry)) (now (b .entry))) ⌝ }
+    ensures { λ r. ⌜ r ≡ flat (relationAnswer Relation.Autoderefs (now (a .entry)) (now (b .entry))) ⌝ }
 {
     if are_types(a, b) {
         return told(relation_coerces::can_autoderef_into(a, b));
     }
-    verdict(relation_questions::coerces(Coercion::Autoderef, a, b))
+    verdict(relation_questions::relates(Relation::Autoderefs, a, b))
 }
 
 #[no_mangle]
 pub extern "C" fn tj_can_subautoderef_into(a: &[u64], b: &[u64]) -> Answer
-    ensures { λ r. ⌜ r ≡ flat (coercionAnswer Coercion.Subautoderef (now (a .entry)) (now (b .entry))) ⌝ }
+    ensures { λ r. ⌜ r ≡ flat (relationAnswer Relation.Subautoderefs (now (a .entry)) (now (b .entry))) ⌝ }
 {
     if are_types(a, b) {
         return told(relation_coerces::can_subautoderef_into(a, b));
     }
-    verdict(relation_questions::coerces(Coercion::Subautoderef, a, b))
+    verdict(relation_questions::relates(Relation::Subautoderefs, a, b))
 }

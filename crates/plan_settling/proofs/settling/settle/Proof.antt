@@ -1,4 +1,5 @@
 use Rattle.plan_settling.proofs.Decided.{line-i, line-ii, line-iii, line-iv, line-v, line-vi, line-vii}
+use Rattle.relation_coerces.proofs.Theorems.{read-value, read-address}
 use borrow.Author.Needs.{needs}
 use Rattle.plan_settling.proofs.settling.settle.Statement.{statement}
 use Rattle.plan_settling.proofs.settling.settle.Tie as tie
@@ -15,13 +16,14 @@ settle-spec =
     (λ c κs. search needs)
     (λ c. search line-ii)
     (λ c κs. search needs)
-    (λ c. search line-iii)
-    (λ c. search line-iv)
+    (λ c κs. search needs)
+    (λ c. search (line-iii, read-value))
+    (λ c. search (line-iv, read-value))
     (λ c κs. search needs)
     (λ c κs. search needs)
     (λ c κs. search needs)
-    (λ c. search line-v)
+    (λ c. search (line-v, read-value))
     (λ c κs. search needs)
-    (λ c. search line-vi)
+    (λ c. search (line-vi, read-value, read-address))
     (λ c κs. search needs)
-    (λ c. search line-vii))
+    (λ c. search (line-vii, read-value, read-address)))

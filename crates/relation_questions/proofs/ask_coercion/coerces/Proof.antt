@@ -11,6 +11,5 @@ coerces-spec =
     (λ c. search needs)
     (λ c. search needs)
     (λ c κs. search needs)
-    (λ c κs. search needs)
     (λ c. search coercion-refused)
     (λ c. search coercion-answered))

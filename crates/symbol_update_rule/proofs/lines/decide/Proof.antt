@@ -1,4 +1,5 @@
 use borrow.Author.Needs.{needs}
+use Rattle.relation_coerces.proofs.Theorems.{read-value}
 use Rattle.symbol_update_rule.proofs.Choices.{poisoned, ill-formed, kept, type-replaced, both-replaced, conflicting}
 use Rattle.symbol_update_rule.proofs.lines.decide.Statement.{statement}
 use Rattle.symbol_update_rule.proofs.lines.decide.Tie as tie
@@ -18,5 +19,6 @@ decide-spec =
     (λ c. search type-replaced)
     (λ c κs. search needs)
     (λ c κs. search needs)
-    (λ c. search both-replaced)
-    (λ c. search conflicting))
+    (λ c κs. search needs)
+    (λ c. search (both-replaced, read-value))
+    (λ c. search (conflicting, read-value)))

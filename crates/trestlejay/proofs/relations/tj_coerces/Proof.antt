@@ -1,12 +1,13 @@
 use borrow.Author.Needs.{needs}
 use Rattle.trestlejay.proofs.Told.{flat-of, coercion-direct}
-use Rattle.trestlejay.proofs.relations.tj_can_coerce_address_into.Statement.{statement}
-use Rattle.trestlejay.proofs.relations.tj_can_coerce_address_into.Tie as tie
+use Rattle.trestlejay.proofs.relations.tj_coerces.Statement.{statement}
+use Rattle.trestlejay.proofs.relations.tj_coerces.Tie as tie
 
-pub tj-can-coerce-address-into-spec : {M : Type 1} → statement M
-tj-can-coerce-address-into-spec =
+pub tj-coerces-spec : {M : Type 1} → statement M
+tj-coerces-spec =
     tie.close
     (tie.spec
+    (λ c κs. search needs)
     (λ c κs. search needs)
     (λ c κs. search needs)
     (λ c κs. search needs)
