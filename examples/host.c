@@ -12,6 +12,7 @@
 #define WORDS(t) (t), sizeof(t) / sizeof *(t)
 
 static const uint64_t slice[] = {TJ_SLICE, 0, 0, TJ_CHAR8, 0, 0};
+static const uint64_t slice_pointer[] = {TJ_SLICE_POINTER, 0, 0, TJ_CHAR8, 0, 0};
 static const uint64_t array[] = {TJ_ARRAY, 0, 3, TJ_CHAR8, 0, 0};
 static const uint64_t arraylike[] = {TJ_ARRAYLIKE, 0, 0, TJ_CHAR8, 0, 0};
 static const uint64_t view[] = {TJ_VIEW, 0, 0, TJ_POINTER, 0, 0, TJ_INT32, 0, 0};
@@ -28,6 +29,21 @@ static void say(const char *question, tj_answer a)
         printf("%s: refused %" PRIu64 " at %" PRIu64 "\n", question, a.refusal, a.value);
     else
         printf("%s: %" PRIu64 "\n", question, a.value);
+}
+
+/* The one answer has both coercions: no caller can forget the second. */
+static const char *way(tj_answer a)
+{
+    if (a.refusal)
+        return "not: no type";
+    switch (a.value) {
+    case TJ_COERCES_AS_VALUE:
+        return "as a value";
+    case TJ_COERCES_BY_ADDRESS:
+        return "by its address";
+    default:
+        return "not at all";
+    }
 }
 
 static void types(void)
@@ -53,8 +69,9 @@ static void types(void)
     printf("which is %" PRIu64 " * 2^64 + %" PRIu64 "\n", high, low);
     say("words of a string literal's type", tj_for_string_literal(3, WORDS(made)));
     say("which is array", tj_identical(made, 6, WORDS(array)));
-    say("array coerces into slice", tj_can_coerce_into(WORDS(array), WORDS(slice)));
-    say("slice coerces into array", tj_can_coerce_into(WORDS(slice), WORDS(array)));
+    printf("array coerces into slice %s\n", way(tj_coerces(WORDS(array), WORDS(slice))));
+    printf("array coerces into a slice pointer %s\n", way(tj_coerces(WORDS(array), WORDS(slice_pointer))));
+    printf("slice coerces into array %s\n", way(tj_coerces(WORDS(slice), WORDS(array))));
     say("slice equals itself", tj_equals(WORDS(slice), WORDS(slice)));
     say("words of an extern arraylike",
         tj_fix_type_for_flags(WORDS(arraylike), true, TJ_IN_PARAMETER, WORDS(made)));

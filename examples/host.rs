@@ -8,9 +8,12 @@
 const TJ_INT32: u64 = 3;
 const TJ_ARRAY: u64 = 14;
 const TJ_SLICE: u64 = 16;
+const TJ_SLICE_POINTER: u64 = 17;
 const TJ_STRUCT: u64 = 20;
 const TJ_POINTER: u64 = 23;
 const TJ_VIEW: u64 = 24;
+const TJ_COERCES_AS_VALUE: u64 = 1;
+const TJ_COERCES_BY_ADDRESS: u64 = 2;
 const TJ_ELEMENT: u64 = 0;
 const TJ_ENDLESS_UNKNOWN: u64 = 0;
 const TJ_ACCEPTED: u64 = 0;
@@ -48,7 +51,7 @@ struct Symbol {
 
 #[rustfmt::skip]
 extern "C" {
-    fn tj_can_coerce_into(a: *const u64, na: usize, b: *const u64, nb: usize) -> Answer;
+    fn tj_coerces(a: *const u64, na: usize, b: *const u64, nb: usize) -> Answer;
     fn tj_can_autoderef_into(a: *const u64, na: usize, b: *const u64, nb: usize) -> Answer;
     fn tj_autoderef(
         known: *const u64, nknown: usize, asked: *const u64, nasked: usize, target: *const u64, ntarget: usize,
@@ -64,13 +67,29 @@ extern "C" {
 type Question = unsafe extern "C" fn(*const u64, usize, *const u64, usize) -> Answer;
 
 // Any words may be asked about, also words that are no type; a slice's pointer is aligned and not null, as the header asks.
-fn ask(question: Question, a: &[u64], b: &[u64]) -> Result<bool, (u64, u64)> {
+fn ask(question: Question, a: &[u64], b: &[u64]) -> Result<u64, (u64, u64)> {
     let answer = unsafe { question(a.as_ptr(), a.len(), b.as_ptr(), b.len()) };
     if answer.refusal == TJ_ACCEPTED {
-        Ok(answer.value == 1)
+        Ok(answer.value)
     } else {
         Err((answer.refusal, answer.value))
     }
+}
+
+#[derive(Debug)]
+enum Coercion {
+    None,
+    AsValue,
+    ByAddress,
+}
+
+// One answer has both coercions: a match on it cannot forget the second.
+fn coerces(a: &[u64], b: &[u64]) -> Result<Coercion, (u64, u64)> {
+    ask(tj_coerces, a, b).map(|value| match value {
+        TJ_COERCES_AS_VALUE => Coercion::AsValue,
+        TJ_COERCES_BY_ADDRESS => Coercion::ByAddress,
+        _ => Coercion::None,
+    })
 }
 
 // A plan's steps, the type that it reports, and whether that is then coerced.
@@ -134,11 +153,13 @@ fn read(what: &str, known: &[u64], asked: &[u64], wanted: &[u64]) -> Result<(), 
 fn main() {
     let coefficients = [TJ_ARRAY, 0, 5, TJ_INT32, 0, 0];
     let channels = [TJ_SLICE, 0, 0, TJ_INT32, 0, 0];
+    let slice_pointer = [TJ_SLICE_POINTER, 0, 0, TJ_INT32, 0, 0];
     let profile = [TJ_STRUCT, 7, 0];
     let view = [TJ_VIEW, 0, 0, TJ_STRUCT, 7, 0];
     let cut_off = [TJ_VIEW, 0, 0]; // a View of nothing
-    println!("coefficients into channels: {:?}", ask(tj_can_coerce_into, &coefficients, &channels));
-    println!("channels into coefficients: {:?}", ask(tj_can_coerce_into, &channels, &coefficients));
+    println!("coefficients into channels: {:?}", coerces(&coefficients, &channels));
+    println!("coefficients into a slice pointer: {:?}", coerces(&coefficients, &slice_pointer));
+    println!("channels into coefficients: {:?}", coerces(&channels, &coefficients));
     println!("view into profile: {:?}", ask(tj_can_autoderef_into, &view, &profile));
     println!("cut off into profile: {:?}", ask(tj_can_autoderef_into, &cut_off, &profile));
 

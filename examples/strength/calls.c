@@ -113,14 +113,16 @@ static bool ask_bound(size_t which, uint64_t *refusal)
     return answered(a, 0) && kept(0);
 }
 
+/* The one of these relations that has three answers. */
+enum { COERCES = 5 };
+
 static tj_answer (*const relations[])(const uint64_t *, size_t, const uint64_t *, size_t) = {
     tj_identical,
     tj_equals,
     tj_is_like,
     tj_can_be_declared_as,
     tj_can_be_concretization_of,
-    tj_can_coerce_into,
-    tj_can_coerce_address_into,
+    tj_coerces,
     tj_can_autoderef_into,
     tj_can_subautoderef_into,
 };
@@ -133,7 +135,7 @@ static bool ask_two(size_t which, uint64_t *refusal)
     const uint64_t *a = lend(left, 8 * n), *b = lend(right, 8 * m);
     tj_answer got = relations[which](a, n, b, m);
     *refusal = got.refusal;
-    return answered(got, 1) && all_kept();
+    return answered(got, which == COERCES ? TJ_COERCES_BY_ADDRESS : 1) && all_kept();
 }
 
 /* The type of a string literal, or of a string slice. */
@@ -207,10 +209,9 @@ const export questions[] = {
     {"is_like", ask_two, 2},
     {"can_be_declared_as", ask_two, 3},
     {"can_be_concretization_of", ask_two, 4},
-    {"can_coerce_into", ask_two, 5},
-    {"can_coerce_address_into", ask_two, 6},
-    {"can_autoderef_into", ask_two, 7},
-    {"can_subautoderef_into", ask_two, 8},
+    {"coerces", ask_two, COERCES},
+    {"can_autoderef_into", ask_two, 6},
+    {"can_subautoderef_into", ask_two, 7},
     {"fix_type_for_flags", ask_fixing, 0},
     {"read_sheet", ask_sheet, 0},
 };

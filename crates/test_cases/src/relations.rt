@@ -1,9 +1,9 @@
+use crate::report::coercion;
 use crate::report::text;
 use crate::report::verdict;
 use crate::types::TYPES;
 use crate::types::Type;
 use crate::types::type_at;
-use relation_questions::Coercion;
 use relation_questions::Relation;
 
 // The words of a type.
@@ -18,10 +18,9 @@ fn related(a: &[u64], b: &[u64]) {
     verdict(relation_questions::relates(Relation::DeclaredAs, a, b));
     verdict(relation_questions::relates(Relation::ConcretizationOf, a, b));
     text(b" |");
-    verdict(relation_questions::coerces(Coercion::Value, a, b));
-    verdict(relation_questions::coerces(Coercion::Address, a, b));
-    verdict(relation_questions::coerces(Coercion::Autoderef, a, b));
-    verdict(relation_questions::coerces(Coercion::Subautoderef, a, b));
+    coercion(relation_questions::coerces(a, b));
+    verdict(relation_questions::relates(Relation::Autoderefs, a, b));
+    verdict(relation_questions::relates(Relation::Subautoderefs, a, b));
     text(b"\n");
 }
 
@@ -48,7 +47,7 @@ fn against_each(i: usize) {
 // Every ordered pair, left slowest.
 pub(crate) fn pairs() {
     text(b"left right: identical equals like declared concretization");
-    text(b" | coerces address autoderef subautoderef\n");
+    text(b" | coerces autoderef subautoderef\n");
     let mut i = 0;
     while i < TYPES {
         against_each(i);

@@ -1,3 +1,4 @@
+use relation_questions::CoercionAnswer;
 use type_bounds::Bound;
 use type_layers::Checked;
 use type_layers::Verdict;
@@ -38,6 +39,13 @@ pub(crate) fn verdict(v: Verdict) {
         Verdict::Yes => given(1),
         Verdict::No => given(0),
         Verdict::Refused { number, place } => refused(number, place),
+    }
+}
+
+pub(crate) fn coercion(c: CoercionAnswer) {
+    match c {
+        CoercionAnswer::Given(way) => given(way.number()),
+        CoercionAnswer::Refused { number, place } => refused(number, place),
     }
 }
 

@@ -24,17 +24,17 @@ use symbol_update::Updated;
 use symbol_update_lone::update_lone;
 
 // The questions' numbers: the update, the operations on a table, get last.
-pub(crate) const UPDATE: u64 = 33;
+pub(crate) const UPDATE: u64 = 32;
 
-const PUT_NOTHING: u64 = 34;
+const PUT_NOTHING: u64 = 33;
 
-const PUT_TYPE: u64 = 35;
+const PUT_TYPE: u64 = 34;
 
-const PUT_POISON: u64 = 36;
+const PUT_POISON: u64 = 35;
 
-const FORWARD_TYPE: u64 = 37;
+const FORWARD_TYPE: u64 = 36;
 
-const GET: u64 = 39;
+const GET: u64 = 38;
 
 // The store as the answer leaves it: of a record that was stored, its words. The answer has the slot, the six fields and the words.
 fn store_after(table: &[u64], stored: &[u64]) -> [u64; 640] {

@@ -7,7 +7,7 @@ use crate::runs::word;
 use trestlejay::Answer;
 
 // The question's number.
-pub(crate) const FIXING: u64 = 32;
+pub(crate) const FIXING: u64 = 31;
 
 // Fixes a type into the first words of a buffer. The flags: 1 where the type is extern, the context, the words lent.
 fn fix(t: &[u64], flags: &[u64], out: &mut [u64]) -> Answer {

@@ -6,14 +6,14 @@
 // where written, a and b are runs, each a count and so many words. Behind them lines about symbols and plans have the runs target and
 // steps, and a table: a count of records, and of each its six fields and the run of words that stand in its part of the store.
 //
-// 0 to 31 ask about the type a, or about a and b, in the header's order. Written is what stands behind the pointers.
-// 32 fixes a. b: 1 where it is extern, the context, the words lent. Written is the type.
-// 33 updates the table's only record, lent alone, by the offered type a. b: id, authority, place, mark, the store's words.
-// 34 to 39 put nothing, a type, poison, forward declare a type, poison, and get; a and b as above.
+// 0 to 30 ask about the type a, or about a and b, in the header's order. Written is what stands behind the pointers.
+// 31 fixes a. b: 1 where it is extern, the context, the words lent. Written is the type.
+// 32 updates the table's only record, lent alone, by the offered type a. b: id, authority, place, mark, the store's words.
+// 33 to 38 put nothing, a type, poison, forward declare a type, poison, and get; a and b as above.
 //    Of these, written is the slot with the record's fields and words where one is stored; of get, what was found.
-// 40 plans from a. b: depth, rounds, the words lent for the steps and for the type, the store's words.
+// 39 plans from a. b: depth, rounds, the words lent for the steps and for the type, the store's words.
 //    Written is steps, taken, layers, address, coerced, then the steps' words and the type's.
-// 41 walks from a. b: the address, the words lent, two that are 0, the store's words. Written is the type.
+// 40 walks from a. b: the address, the words lent, two that are 0, the store's words. Written is the type.
 mod answer;
 mod changing;
 mod compare;

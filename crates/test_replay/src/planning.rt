@@ -16,9 +16,9 @@ use walker_run::walk_among;
 use write_answer::Answer;
 
 // The questions' numbers.
-pub(crate) const AUTODEREF: u64 = 40;
+pub(crate) const AUTODEREF: u64 = 39;
 
-pub(crate) const WALK: u64 = 41;
+pub(crate) const WALK: u64 = 40;
 
 // Where the known type and the target stand, in one run with the store: a plan's type may be a part of any of the three.
 const KNOWN: usize = 432;

@@ -41,8 +41,7 @@ extern "C" {
     pub fn tj_is_like(a: *const u64, na: usize, b: *const u64, nb: usize) -> Raw;
     pub fn tj_can_be_declared_as(a: *const u64, na: usize, b: *const u64, nb: usize) -> Raw;
     pub fn tj_can_be_concretization_of(a: *const u64, na: usize, b: *const u64, nb: usize) -> Raw;
-    pub fn tj_can_coerce_into(a: *const u64, na: usize, b: *const u64, nb: usize) -> Raw;
-    pub fn tj_can_coerce_address_into(a: *const u64, na: usize, b: *const u64, nb: usize) -> Raw;
+    pub fn tj_coerces(a: *const u64, na: usize, b: *const u64, nb: usize) -> Raw;
     pub fn tj_can_autoderef_into(a: *const u64, na: usize, b: *const u64, nb: usize) -> Raw;
     pub fn tj_can_subautoderef_into(a: *const u64, na: usize, b: *const u64, nb: usize) -> Raw;
 
@@ -68,7 +67,7 @@ enum Entry {
 
 use Entry::{Halves, One, Size, Two};
 
-static ENTRIES: [Entry; 32] = [
+static ENTRIES: [Entry; 31] = [
     One(tj_check),
     One(tj_is_wellformed),
     One(tj_is_void),
@@ -97,8 +96,7 @@ static ENTRIES: [Entry; 32] = [
     Two(tj_is_like),
     Two(tj_can_be_declared_as),
     Two(tj_can_be_concretization_of),
-    Two(tj_can_coerce_into),
-    Two(tj_can_coerce_address_into),
+    Two(tj_coerces),
     Two(tj_can_autoderef_into),
     Two(tj_can_subautoderef_into),
 ];

@@ -24,13 +24,15 @@ pub enum Question {
     /// Written as low and high half.
     Halves(fn(&ValueType) -> u128),
     Relation(fn(&ValueType, &ValueType) -> bool),
+    /// One of three answers, by its number.
+    Coercion(fn(&ValueType, &ValueType) -> u64),
     /// The type made is written from the output's first word on.
     Fix(fn(&ValueType, bool, u64) -> Result<ValueType, Refusal>),
 }
 
-use Question::{Fix, Halves, Inner, Number, Relation, Role, Size};
+use Question::{Coercion, Fix, Halves, Inner, Number, Relation, Role, Size};
 
-pub const QUESTIONS: [(&str, Question); 33] = [
+pub const QUESTIONS: [(&str, Question); 32] = [
     ("check", Number(|t| encode(t).len() as u64 / 3)),
     ("is_wellformed", Role(|t| t.is_wellformed())),
     ("is_void", Role(|t| t.is_void())),
@@ -74,11 +76,7 @@ pub const QUESTIONS: [(&str, Question); 33] = [
         "can_be_concretization_of",
         Relation(|a, b| a.can_be_concretization_of(b)),
     ),
-    ("can_coerce_into", Relation(|a, b| a.can_coerce_into(b))),
-    (
-        "can_coerce_address_into",
-        Relation(|a, b| a.can_coerce_address_into(b)),
-    ),
+    ("coerces", Coercion(coerces)),
     (
         "can_autoderef_into",
         Relation(|a, b| a.can_autoderef_into(b)),
@@ -94,7 +92,7 @@ pub const QUESTIONS: [(&str, Question); 33] = [
 pub const RELATIONS: usize = 23;
 
 /// Asked of a type and three numbers: 1 where it is extern, the context, the output's words.
-pub const FIXING: usize = 32;
+pub const FIXING: usize = 31;
 
 /// The answer to a question about the words a and, for a relation, b; for fixing, b is the numbers.
 pub fn answer(question: usize, a: &[u64], b: &[u64]) -> Answer {
@@ -124,8 +122,8 @@ pub fn answer(question: usize, a: &[u64], b: &[u64]) -> Answer {
             let whole = ask(&left);
             (0, vec![whole as u64, (whole >> 64) as u64])
         }
-        Relation(ask) => match check(b) {
-            Ok(layers) => (ask(&left, &decode(&layers)) as u64, Vec::new()),
+        Relation(_) | Coercion(_) => match check(b) {
+            Ok(layers) => (related(question, &left, &decode(&layers)), Vec::new()),
             Err(refusal) => return refused(refusal),
         },
         // The original knows neither 15 nor 14.
@@ -140,6 +138,26 @@ pub fn answer(question: usize, a: &[u64], b: &[u64]) -> Answer {
         refusal: 0,
         value,
         written,
+    }
+}
+
+/// What a question of two types answers.
+fn related(question: usize, a: &ValueType, b: &ValueType) -> u64 {
+    match &QUESTIONS[question].1 {
+        Relation(ask) => ask(a, b).into(),
+        Coercion(ask) => ask(a, b),
+        _ => unreachable!("a question of one type"),
+    }
+}
+
+/// 0 where a type does not coerce into another, 1 as a value, 2 by its address. The original has two
+/// questions for it, and both are asked of every pair.
+pub fn coerces(a: &ValueType, b: &ValueType) -> u64 {
+    match (a.can_coerce_into(b), a.can_coerce_address_into(b)) {
+        (false, false) => 0,
+        (true, false) => 1,
+        (false, true) => 2,
+        (true, true) => panic!("both of the original's questions say yes"),
     }
 }
 

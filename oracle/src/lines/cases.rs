@@ -11,7 +11,7 @@ const BAD_WORDS: &str = "kind at layer, of sixteen: | the names 0 1 4294967295 4
     each with the numbers 0 1 2 18446744073709551615\n";
 
 const PAIRS: &str = "left right: identical equals like declared concretization \
-    | coerces address autoderef subautoderef\n";
+    | coerces autoderef subautoderef\n";
 
 const FIXES: &str = "type external context: fixed | buffer | in eight words\n";
 

@@ -7,15 +7,15 @@ use crate::judge::table::{Symbol, PART};
 
 /// The questions' numbers: those of the header's section Symbols, in its order, then of its section
 /// Plans.
-pub const UPDATE: usize = 33;
-pub const PUT_NOTHING: usize = 34;
-pub const PUT_TYPE: usize = 35;
-pub const PUT_POISON: usize = 36;
-pub const DECLARE_TYPE: usize = 37;
-pub const DECLARE_POISON: usize = 38;
-pub const GET: usize = 39;
-pub const AUTODEREF: usize = 40;
-pub const WALK: usize = 41;
+pub const UPDATE: usize = 32;
+pub const PUT_NOTHING: usize = 33;
+pub const PUT_TYPE: usize = 34;
+pub const PUT_POISON: usize = 35;
+pub const DECLARE_TYPE: usize = 36;
+pub const DECLARE_POISON: usize = 37;
+pub const GET: usize = 38;
+pub const AUTODEREF: usize = 39;
+pub const WALK: usize = 40;
 
 /// What `test_replay` has room for: records of a table, and words of a store.
 pub const MOST_RECORDS: usize = 8;
