@@ -1,7 +1,7 @@
 -- What follows from the definitions of the coercions and dereferences alone.
 -- Assumes nothing.
 use mathlib.Core.Path.{_≡_, refl, sym, subst, _∙_}
-use mathlib.Core.Bool.{Bool, true, false, cond, _&&_, _||_, or-true, true≢false, false≢true}
+use mathlib.Core.Bool.{Bool, true, false, cond, not, _&&_, _||_, or-true, true≢false, false≢true}
 use mathlib.Core.List.{List, [], _∷_}
 use Prim.Native.Nat.{ℕ}
 use lib.Dec.{eqb}
@@ -68,31 +68,29 @@ never-both a b = by-answers (coerces a b) (addressCoerces a b) refl refl
     by-answers true false e f = refl
     by-answers false v e f = refl
 
--- So the merged answer agrees with each of the two questions: it is as a value exactly where a type coerces,
+-- the merged answer of two questions that never both say yes
 answered : (f g : Bool) → (f && g) ≡ false →
     let n = cond f number.asValue (cond g number.byAddress number.none) in
-    (eqb n number.asValue ≡ f) × (eqb n number.byAddress ≡ g)
+    (eqb n number.asValue ≡ f) × (eqb n number.byAddress ≡ g) × (eqb n number.none ≡ not (f || g))
 answered true true e = absurd (true≢false e)
-answered true false e = (refl, refl)
-answered false true e = (refl, refl)
-answered false false e = (refl, refl)
+answered true false e = (refl, refl, refl)
+answered false true e = (refl, refl, refl)
+answered false false e = (refl, refl, refl)
 
+-- So the merged answer agrees with each of the two: it is as a value exactly where a type coerces,
 pub as-value : (a b : List Layer) → eqb (coercion a b) number.asValue ≡ coerces a b
 unfolding coercion
 as-value a b = answered (coerces a b) (addressCoerces a b) (never-both a b) .0
 
--- and by address exactly where its address coerces.
+-- by address exactly where its address coerces,
 pub by-address : (a b : List Layer) → eqb (coercion a b) number.byAddress ≡ addressCoerces a b
 unfolding coercion
 by-address a b = answered (coerces a b) (addressCoerces a b) (never-both a b) .1
 
--- one of the two, read off the answer
-module _ (a b : List Layer) (n : ℕ) (r : Bool) (e : n ≡ coercion a b) where
-  pub read-value : r ≡ eqb n number.asValue → r ≡ coerces a b
-  read-value q = q ∙ rw e (as-value a b)
-
-  pub read-address : r ≡ eqb n number.byAddress → r ≡ addressCoerces a b
-  read-address q = q ∙ rw e (by-address a b)
+-- and none exactly where neither does.
+pub none-where-neither : (a b : List Layer) → eqb (coercion a b) number.none ≡ not (coerces a b || addressCoerces a b)
+unfolding coercion
+none-where-neither a b = answered (coerces a b) (addressCoerces a b) (never-both a b) .2
 
 -- a listed pair's left type is of one of the kinds 14-18 and 20
 array-or-struct : (k l m : ℕ) → listed k l m ≡ true → isArrayOrStruct k ≡ true

@@ -40,7 +40,8 @@ pub fn decide(
     if authoritative & can_be_declared_as(offered, stored) {
         return Line::TypeReplaced;
     }
-    if newly & (can_be_concretization_of(offered, stored) | coerces(offered, stored).is_as_value()) {
+    let coerced = coerces(offered, stored).is_as_value();
+    if newly & (can_be_concretization_of(offered, stored) | coerced) {
         return Line::BothReplaced;
     }
     Line::Conflicting

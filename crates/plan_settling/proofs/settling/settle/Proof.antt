@@ -1,5 +1,5 @@
 use Rattle.plan_settling.proofs.Decided.{line-i, line-ii, line-iii, line-iv, line-v, line-vi, line-vii}
-use Rattle.relation_coerces.proofs.Theorems.{read-value, read-address}
+use Rattle.relation_coerces.proofs.Reading.{read-value, read-address}
 use borrow.Author.Needs.{needs}
 use Rattle.plan_settling.proofs.settling.settle.Statement.{statement}
 use Rattle.plan_settling.proofs.settling.settle.Tie as tie

@@ -1,5 +1,5 @@
 use borrow.Author.Needs.{needs}
-use Rattle.relation_coerces.proofs.Theorems.{read-value, read-address}
+use Rattle.relation_coerces.proofs.Reading.{read-value, read-address}
 use Rattle.relation_coerces.proofs.Dereferences.{or-yes, or-no, auto-array, auto-view, auto-address, auto-pointer, auto-other}
 use Rattle.relation_coerces.proofs.autoderefs.can_autoderef_into.Statement.{statement}
 use Rattle.relation_coerces.proofs.autoderefs.can_autoderef_into.Tie as tie

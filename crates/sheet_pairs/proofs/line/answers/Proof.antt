@@ -1,5 +1,5 @@
 use borrow.Author.Needs.{needs}
-use Rattle.relation_coerces.proofs.Theorems.{read-value, read-address}
+use Rattle.relation_coerces.proofs.Reading.{read-value, read-address}
 use Rattle.sheet_pairs.proofs.line.answers.Statement.{statement}
 use Rattle.sheet_pairs.proofs.line.answers.Tie as tie
 use Rattle.sheet_pairs.specs.Text.{answers}

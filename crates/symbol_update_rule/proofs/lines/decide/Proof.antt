@@ -1,5 +1,5 @@
 use borrow.Author.Needs.{needs}
-use Rattle.relation_coerces.proofs.Theorems.{read-value}
+use Rattle.relation_coerces.proofs.Reading.{read-value}
 use Rattle.symbol_update_rule.proofs.Choices.{poisoned, ill-formed, kept, type-replaced, both-replaced, conflicting}
 use Rattle.symbol_update_rule.proofs.lines.decide.Statement.{statement}
 use Rattle.symbol_update_rule.proofs.lines.decide.Tie as tie
