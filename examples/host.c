@@ -31,19 +31,14 @@ static void say(const char *question, tj_answer a)
         printf("%s: %" PRIu64 "\n", question, a.value);
 }
 
-/* The one answer has both coercions: no caller can forget the second. */
-static const char *way(tj_answer a)
+/* One answer tells of both coercions. */
+static void say_coercion(const char *question, tj_answer a)
 {
+    static const char *const ways[] = {"not at all", "as a value", "by its address"};
     if (a.refusal)
-        return "not: no type";
-    switch (a.value) {
-    case TJ_COERCES_AS_VALUE:
-        return "as a value";
-    case TJ_COERCES_BY_ADDRESS:
-        return "by its address";
-    default:
-        return "not at all";
-    }
+        say(question, a);
+    else
+        printf("%s: %s\n", question, ways[a.value]);
 }
 
 static void types(void)
@@ -69,9 +64,10 @@ static void types(void)
     printf("which is %" PRIu64 " * 2^64 + %" PRIu64 "\n", high, low);
     say("words of a string literal's type", tj_for_string_literal(3, WORDS(made)));
     say("which is array", tj_identical(made, 6, WORDS(array)));
-    printf("array coerces into slice %s\n", way(tj_coerces(WORDS(array), WORDS(slice))));
-    printf("array coerces into a slice pointer %s\n", way(tj_coerces(WORDS(array), WORDS(slice_pointer))));
-    printf("slice coerces into array %s\n", way(tj_coerces(WORDS(slice), WORDS(array))));
+    say_coercion("array coerces into slice", tj_coerces(WORDS(array), WORDS(slice)));
+    say_coercion("array coerces into slice_pointer", tj_coerces(WORDS(array), WORDS(slice_pointer)));
+    say_coercion("slice coerces into array", tj_coerces(WORDS(slice), WORDS(array)));
+    say_coercion("slice coerces into early", tj_coerces(WORDS(slice), WORDS(early)));
     say("slice equals itself", tj_equals(WORDS(slice), WORDS(slice)));
     say("words of an extern arraylike",
         tj_fix_type_for_flags(WORDS(arraylike), true, TJ_IN_PARAMETER, WORDS(made)));

@@ -76,6 +76,10 @@ fn ask(question: Question, a: &[u64], b: &[u64]) -> Result<u64, (u64, u64)> {
     }
 }
 
+fn is_yes(value: u64) -> bool {
+    value == 1
+}
+
 #[derive(Debug)]
 enum Coercion {
     None,
@@ -83,7 +87,7 @@ enum Coercion {
     ByAddress,
 }
 
-// One answer has both coercions: a match on it cannot forget the second.
+// One answer tells of both coercions.
 fn coerces(a: &[u64], b: &[u64]) -> Result<Coercion, (u64, u64)> {
     ask(tj_coerces, a, b).map(|value| match value {
         TJ_COERCES_AS_VALUE => Coercion::AsValue,
@@ -160,8 +164,8 @@ fn main() {
     println!("coefficients into channels: {:?}", coerces(&coefficients, &channels));
     println!("coefficients into a slice pointer: {:?}", coerces(&coefficients, &slice_pointer));
     println!("channels into coefficients: {:?}", coerces(&channels, &coefficients));
-    println!("view into profile: {:?}", ask(tj_can_autoderef_into, &view, &profile));
-    println!("cut off into profile: {:?}", ask(tj_can_autoderef_into, &cut_off, &profile));
+    println!("view into profile: {:?}", ask(tj_can_autoderef_into, &view, &profile).map(is_yes));
+    println!("cut off into profile: {:?}", ask(tj_can_autoderef_into, &cut_off, &profile).map(is_yes));
 
     let int32 = [TJ_INT32, 0, 0];
     let hidden = [TJ_VIEW, 0, 0, TJ_POINTER, 0, 0, TJ_INT32, 0, 0];

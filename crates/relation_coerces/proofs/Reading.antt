@@ -7,7 +7,8 @@ use Prim.Native.Nat.{ℕ}
 use lib.Dec.{eqb}
 use Rattle.type_numbers.specs.CoercionNumber as number
 use Rattle.type_layers.specs.Layers.{Layer}
-use Rattle.relation_coerces.specs.Coerces.{coerces, addressCoerces, coercion}
+use Rattle.relation_coerces.specs.Coerces.{coerces, addressCoerces}
+use Rattle.relation_coerces.specs.Coercion.{coercion}
 use Rattle.relation_coerces.proofs.Theorems.{as-value, by-address}
 
 module _ (a b : List Layer) (n : ℕ) (r : Bool) (e : n ≡ coercion a b) where

@@ -11,7 +11,8 @@ use Rattle.type_numbers.specs.CoercionNumber as number
 use Rattle.type_layers.specs.Layers.{Layer, layer, outer, inside, isReference}
 use Rattle.relation_equals.specs.Equals.{identical, equals}
 use Rattle.relation_equals.proofs.Theorems.{identical-equals, equals-reflexive}
-use Rattle.relation_coerces.specs.Coerces.{hasLength, intoSlice, intoEndlessArray, structIntoView, coerces, addressCoerces, coercion, isArrayOrStruct, viewAutoderefs, pointerAutoderefs, autoderefs}
+use Rattle.relation_coerces.specs.Coerces.{hasLength, intoSlice, intoEndlessArray, structIntoView, coerces, addressCoerces, isArrayOrStruct, viewAutoderefs, pointerAutoderefs, autoderefs}
+use Rattle.relation_coerces.specs.Coercion.{coercion}
 
 -- the pairs of kinds of which a value may coerce
 abbrev listed : ℕ → ℕ → ℕ → Bool

@@ -11,30 +11,40 @@ use Rattle.relation_equals.specs.Equals.{sameLayer, identical, plainLayer, equa
 use Rattle.relation_coerces.specs.Coerces.{hasLength}
 use Rattle.relation_coerces.specs.declared.coercion.Coercion.{Coercion}
 use Rattle.relation_coerces.specs.declared.coercion.Coercion.the-variants as coded
+use Rattle.relation_coerces.specs.declared.coercion.Open.{Open}
+use Rattle.relation_coerces.specs.declared.coercion.Open.the-variants as open′
 
--- Which answer each of the code's is.
+-- The number of each of the code's answers.
 abbrev pub ofCoercion : Coercion → ℕ
 ofCoercion coded.None = number.none
 ofCoercion coded.AsValue = number.asValue
 ofCoercion coded.ByAddress = number.byAddress
 
--- The answer that the outer kinds k and l leave open.
-abbrev pub openTo : ℕ → ℕ → ℕ
+-- What the outer kinds k and l leave open.
+abbrev pub openTo : ℕ → ℕ → Open
 openTo k l =
-    cond
-    (hasLength k && (eqb l kind.slice || eqb l kind.view)
-    || (eqb k kind.slice || eqb k kind.struct) && eqb l kind.view
-    || eqb k kind.slicePointer && eqb l kind.pointer) number.asValue
-    (cond (hasLength k && (eqb l kind.slicePointer || eqb l kind.pointer)) number.byAddress
-    number.none)
+    cond (hasLength k && eqb l kind.slice) (open′.Elements coded.AsValue)
+    (cond (hasLength k && eqb l kind.slicePointer) (open′.Elements coded.ByAddress)
+    (cond ((hasLength k || eqb k kind.slice) && eqb l kind.view || eqb k kind.slicePointer && eqb l kind.pointer) (open′.Endless coded.AsValue)
+    (cond (hasLength k && eqb l kind.pointer) (open′.Endless coded.ByAddress)
+    (cond (eqb k kind.struct && eqb l kind.view) open′.Struct
+    open′.Closed))))
 
--- Whether what has to be the same is: a Struct and what the View holds, or the two elements.
-unfoldable pub agree : List Layer → List Layer → Bool
-agree a b =
-    cond (eqb (outer a) kind.struct) (identical a (inside b))
-    (cond (isReference (outer b))
-    (cond (eqb (outer (inside b)) kind.endlessArray) (equals (inside a) (inside (inside b))) false)
-    (equals (inside a) (inside b)))
+-- What comes of it. What is the same: the two elements, those where the right one is of an EndlessArray, the Struct.
+abbrev pub ofOpen : Open → Bool → Bool → Bool → ℕ
+ofOpen open′.Closed elements endless struct = number.none
+ofOpen open′.Struct elements endless struct = cond struct number.asValue number.none
+ofOpen (open′.Elements c) elements endless struct = cond elements (ofCoercion c) number.none
+ofOpen (open′.Endless c) elements endless struct = cond endless (ofCoercion c) number.none
+
+-- Whether a type that the right one holds is an EndlessArray of what equals the left element.
+unfoldable pub sameInEndlessArray : List Layer → List Layer → Bool
+sameInEndlessArray d c = eqb (outer c) kind.endlessArray && equals d (inside c)
+
+-- The outer kinds are looked at once, and then equals or identical is asked once at most.
+unfoldable pub found : List Layer → List Layer → ℕ
+found a b =
+    ofOpen (openTo (outer a) (outer b)) (equals (inside a) (inside b)) (sameInEndlessArray (inside a) (inside b)) (identical a (inside b))
 
 -- Whether a type of the outer kind j may equal one of the outer kind l: a View or a Pointer equals only its own kind.
 abbrev pub mayEqual : ℕ → ℕ → Bool

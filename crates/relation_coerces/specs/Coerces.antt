@@ -5,7 +5,6 @@ use mathlib.Core.List.{List, [], _∷_}
 use Prim.Native.Nat.{ℕ}
 use lib.Dec.{eqb}
 use Rattle.type_numbers.specs.Kind as kind
-use Rattle.type_numbers.specs.CoercionNumber as number
 use Rattle.type_layers.specs.Layers.{Layer, outer, inside, isReference}
 use Rattle.relation_equals.specs.Equals.{identical, equals}
 
@@ -47,13 +46,6 @@ addressCoerces a b =
     cond (addressIntoSlicePointer (outer a) (outer b)) (equals (inside a) (inside b))
     (cond (addressIntoEndlessArray (outer a) (outer b) (outer (inside b))) (equals (inside a) (inside (inside b)))
     false)
-
--- "Merge both into one question with three answers: none, as a value, by address."
-unfoldable pub coercion : List Layer → List Layer → ℕ
-coercion a b =
-    cond (coerces a b) number.asValue
-    (cond (addressCoerces a b) number.byAddress
-    number.none)
 
 -- "sub-autoderefs: View and Pointer only, the same lines without "a equals b" and without address coercion": of a View
 -- the viewee and of a Pointer the pointee of b, which is of the same kind. It stands first, as *autoderefs* asks it.

@@ -1,2 +1,3 @@
 pub mod Coerces
+pub mod Coercion
 pub mod AsCoded

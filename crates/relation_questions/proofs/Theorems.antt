@@ -9,7 +9,8 @@ use Rattle.type_numbers.specs.CoercionNumber as number
 use Rattle.type_layers.specs.Layers.{layers}
 use Rattle.type_layers.specs.Answer.{Answer, given, nothing, refused, next, truth}
 use Rattle.type_checks.specs.Check.{checkOf}
-use Rattle.relation_coerces.specs.Coerces.{coerces, addressCoerces, coercion}
+use Rattle.relation_coerces.specs.Coerces.{coerces, addressCoerces}
+use Rattle.relation_coerces.specs.Coercion.{coercion}
 use Rattle.relation_coerces.proofs.Theorems.{as-value, by-address}
 use Rattle.relation_questions.specs.Questions.{coercionAnswer}
 use Rattle.relation_questions.specs.Earlier.{earlierValueAnswer, earlierAddressAnswer, whether}

@@ -10,7 +10,7 @@ use Rattle.type_checks.specs.Check.{checkOf}
 use Rattle.type_layers.specs.declared.answers.Checked.{Checked}
 use Rattle.type_layers.specs.declared.answers.Checked.the-variants.{Good, Refused}
 use Rattle.type_checks.proofs.Refusals.{refuses, accepts, answered, next-next}
-use Rattle.relation_coerces.specs.Coerces.{coercion}
+use Rattle.relation_coerces.specs.Coercion.{coercion}
 use Rattle.relation_questions.specs.Questions.{relates, relationAnswer, coercionAnswer}
 use Rattle.relation_questions.specs.declared.ask_relation.Relation.{Relation}
 

@@ -7,7 +7,8 @@ use Rattle.type_layers.specs.Answer.{Answer, given, refused, next, truth}
 use Rattle.type_checks.specs.Check.{checkOf}
 use Rattle.relation_equals.specs.Equals.{identical, equals}
 use Rattle.relation_declared.specs.Declared.{like, declared, concretization}
-use Rattle.relation_coerces.specs.Coerces.{coercion, autoderefs, subautoderefs}
+use Rattle.relation_coerces.specs.Coerces.{autoderefs, subautoderefs}
+use Rattle.relation_coerces.specs.Coercion.{coercion}
 use Rattle.relation_coerces.specs.AsCoded.{ofCoercion}
 use Rattle.relation_questions.specs.declared.ask_relation.Relation.{Relation}
 use Rattle.relation_questions.specs.declared.ask_relation.Relation.the-variants as relation

@@ -10,7 +10,7 @@ use Rattle.type_layers.specs.Answer.{next, truth, isGiven}
 use Rattle.type_checks.specs.Check.{checkOf}
 use Rattle.type_layers.proofs.Decide.{both}
 use Rattle.type_checks.proofs.Refusals.{passed}
-use Rattle.relation_coerces.specs.Coerces.{coercion}
+use Rattle.relation_coerces.specs.Coercion.{coercion}
 use Rattle.relation_questions.specs.Questions.{relates, relationAnswer, coercionAnswer, ofCoercionAnswer}
 use Rattle.relation_coerces.specs.AsCoded.{ofCoercion}
 use Rattle.relation_coerces.specs.declared.coercion.Coercion.{Coercion}

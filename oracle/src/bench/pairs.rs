@@ -51,7 +51,7 @@ const RELATIONS: [Relation; 5] = [
     AUTODEREFS,
 ];
 
-/// The original is asked as its callers ask it: the second question where the first says no.
+/// Both questions of the original: the second where the first says no.
 fn one_or_the_other(a: &ValueType, b: &ValueType) -> u64 {
     if a.can_coerce_into(b) {
         return 1;

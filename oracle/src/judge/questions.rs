@@ -23,14 +23,13 @@ pub enum Question {
     Size(fn(&[Layer], &ValueType) -> Result<Option<u64>, u64>),
     /// Written as low and high half.
     Halves(fn(&ValueType) -> u128),
-    Relation(fn(&ValueType, &ValueType) -> bool),
-    /// One of three answers, by its number.
-    Coercion(fn(&ValueType, &ValueType) -> u64),
+    /// 1 for yes; of `coerces`, one of three numbers.
+    Relation(fn(&ValueType, &ValueType) -> u64),
     /// The type made is written from the output's first word on.
     Fix(fn(&ValueType, bool, u64) -> Result<ValueType, Refusal>),
 }
 
-use Question::{Coercion, Fix, Halves, Inner, Number, Relation, Role, Size};
+use Question::{Fix, Halves, Inner, Number, Relation, Role, Size};
 
 pub const QUESTIONS: [(&str, Question); 32] = [
     ("check", Number(|t| encode(t).len() as u64 / 3)),
@@ -65,25 +64,25 @@ pub const QUESTIONS: [(&str, Question); 32] = [
     ("stored_size", Size(|layers, _| stored_size(layers))),
     ("min_i128", Halves(|t| t.min_i128() as u128)),
     ("max_u128", Halves(|t| t.max_u128())),
-    ("identical", Relation(|a, b| a == b)),
-    ("equals", Relation(ask::equals)),
-    ("is_like", Relation(ask::is_like)),
+    ("identical", Relation(|a, b| (a == b).into())),
+    ("equals", Relation(|a, b| ask::equals(a, b).into())),
+    ("is_like", Relation(|a, b| ask::is_like(a, b).into())),
     (
         "can_be_declared_as",
-        Relation(|a, b| a.can_be_declared_as(b)),
+        Relation(|a, b| a.can_be_declared_as(b).into()),
     ),
     (
         "can_be_concretization_of",
-        Relation(|a, b| a.can_be_concretization_of(b)),
+        Relation(|a, b| a.can_be_concretization_of(b).into()),
     ),
-    ("coerces", Coercion(coerces)),
+    ("coerces", Relation(coerces)),
     (
         "can_autoderef_into",
-        Relation(|a, b| a.can_autoderef_into(b)),
+        Relation(|a, b| a.can_autoderef_into(b).into()),
     ),
     (
         "can_subautoderef_into",
-        Relation(ask::can_subautoderef_into),
+        Relation(|a, b| ask::can_subautoderef_into(a, b).into()),
     ),
     ("fix_type_for_flags", Fix(fix)),
 ];
@@ -122,8 +121,8 @@ pub fn answer(question: usize, a: &[u64], b: &[u64]) -> Answer {
             let whole = ask(&left);
             (0, vec![whole as u64, (whole >> 64) as u64])
         }
-        Relation(_) | Coercion(_) => match check(b) {
-            Ok(layers) => (related(question, &left, &decode(&layers)), Vec::new()),
+        Relation(ask) => match check(b) {
+            Ok(layers) => (ask(&left, &decode(&layers)), Vec::new()),
             Err(refusal) => return refused(refusal),
         },
         // The original knows neither 15 nor 14.
@@ -138,15 +137,6 @@ pub fn answer(question: usize, a: &[u64], b: &[u64]) -> Answer {
         refusal: 0,
         value,
         written,
-    }
-}
-
-/// What a question of two types answers.
-fn related(question: usize, a: &ValueType, b: &ValueType) -> u64 {
-    match &QUESTIONS[question].1 {
-        Relation(ask) => ask(a, b).into(),
-        Coercion(ask) => ask(a, b),
-        _ => unreachable!("a question of one type"),
     }
 }
 

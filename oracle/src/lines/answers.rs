@@ -35,7 +35,7 @@ fn later() -> Vec<usize> {
         DECLARE_TYPE,
         GET,
     ];
-    [&played[..], &[UPDATE; 6], &[AUTODEREF; 10], &[WALK; 2]].concat()
+    [&played[..], &[UPDATE; 6], &[AUTODEREF; 9], &[WALK; 3]].concat()
 }
 
 /// What answers of one sort have in common: bad words are one sort, whatever is wrong with them.

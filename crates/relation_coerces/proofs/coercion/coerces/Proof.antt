@@ -1,5 +1,5 @@
 use borrow.Author.Needs.{needs}
-use Rattle.relation_coerces.proofs.Decisions.{coercion-closed, coercion-found, coercion-none}
+use Rattle.relation_coerces.proofs.Decisions.{coercion-closed, coercion-struct, coercion-elements, coercion-endless}
 use Rattle.relation_coerces.proofs.coercion.coerces.Statement.{statement}
 use Rattle.relation_coerces.proofs.coercion.coerces.Tie as tie
 
@@ -10,8 +10,20 @@ coerces-spec =
     (λ c κs. search needs)
     (λ c κs. search needs)
     (λ c κs. search needs)
+    (λ c κs. search needs)
+    (λ c. search needs)
     (λ c. search needs)
     (λ c κs. search needs)
+    (λ c κs. search needs)
+    (λ c. search needs)
+    (λ c κs. search needs)
+    (λ c κs. search needs)
+    (λ c κs. search needs)
+    (λ c. search needs)
+    (λ c κs. search needs)
+    (λ c κs. search needs)
+    (λ c κs. search needs)
     (λ c. search coercion-closed)
-    (λ c. search coercion-found)
-    (λ c. search coercion-none))
+    (λ c. search coercion-struct)
+    (λ c. search coercion-elements)
+    (λ c. search coercion-endless))
