@@ -5,7 +5,6 @@ use type_layers::outer;
 use type_numbers::Kind;
 use type_numbers::Refusal;
 use type_size_and_depth::depth;
-ghost use mathlib.Core.Path.{_≡_};
 ghost use Rattle.type_layers.specs.Layers.{layers};
 ghost use Rattle.plan_settling.specs.AsCoded as rules;
 

@@ -81,17 +81,21 @@ module _ (a b : List ℕ) (k : ℕ) (f : Bool) (p : k ≡ outer (layers a)) (e :
     unfolding autoderefs viewAutoderefs
     auto-view r t s = rw (← p, ← e, n, t, lines kind.view (layers a) (layers b) (equals (layers a) (layers b)) (sym p ∙ t) refl) s
 
-    module _ (t : k ≡ kind.pointer) (d : List ℕ) (i : d ≡ innerWords a) (g : Bool) (q : g ≡ addressCoerces (layers d) (layers b)) where
-      pub auto-address : g ≡ true → true ≡ autoderefs (layers a) (layers b)
+    module _ (t : k ≡ kind.pointer) (g : Bool) (q : g ≡ equals (layers a) (layers b)) where
+      pointer-lines : autoderefs (layers a) (layers b) ≡ (g || subautoderefs (layers a) (layers b) || addressCoerces (inside (layers a)) (layers b))
       unfolding autoderefs pointerAutoderefs
-      auto-address u =
-          rw (← p, ← e, n, t, lines kind.pointer (layers a) (layers b) (equals (layers a) (layers b)) (sym p ∙ t) refl, ← inner-layers a, ← i, ← q, u, or-true)
+      pointer-lines = rw (← p, ← e, n, t, lines kind.pointer (layers a) (layers b) (equals (layers a) (layers b)) (sym p ∙ t) refl, ← q)
 
-      pub auto-pointer : (r : Bool) → g ≡ false → r ≡ (equals (layers a) (layers b) || subautoderefs (layers a) (layers b)) →
-          r ≡ autoderefs (layers a) (layers b)
-      unfolding autoderefs pointerAutoderefs
-      auto-pointer r u s =
-          rw (← p, ← e, n, t, lines kind.pointer (layers a) (layers b) (equals (layers a) (layers b)) (sym p ∙ t) refl, ← inner-layers a, ← i, ← q, u, or-false) s
+      pub auto-equal : g ≡ true → true ≡ autoderefs (layers a) (layers b)
+      auto-equal u = rw (pointer-lines, u)
+
+      module _ (u : g ≡ false) (h : Bool) (s : h ≡ subautoderefs (layers a) (layers b)) where
+        pub auto-inside : h ≡ true → true ≡ autoderefs (layers a) (layers b)
+        auto-inside v = rw (pointer-lines, u, ← s, v)
+
+        pub auto-address : h ≡ false → (d : List ℕ) → d ≡ innerWords a → (r : Bool) → r ≡ addressCoerces (layers d) (layers b) →
+            r ≡ autoderefs (layers a) (layers b)
+        auto-address v d i r w = rw (pointer-lines, u, ← s, v, ← inner-layers a, ← i) w
 
     pub auto-other : (k ≡ kind.view → ⊥) → (k ≡ kind.pointer → ⊥) → false ≡ autoderefs (layers a) (layers b)
     unfolding autoderefs

@@ -32,10 +32,13 @@ pub fn can_autoderef_into(a: &[u64], b: &[u64]) -> bool
         return equals(a, b) || can_subautoderef_into(a, b);
     }
     if k == Kind::POINTER {
-        if coerces(inner(a), b).is_by_address() {
+        if equals(a, b) {
             return true;
         }
-        return equals(a, b) || can_subautoderef_into(a, b);
+        if can_subautoderef_into(a, b) {
+            return true;
+        }
+        return coerces(inner(a), b).is_by_address();
     }
     false
 }

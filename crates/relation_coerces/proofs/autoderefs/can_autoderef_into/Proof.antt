@@ -1,6 +1,6 @@
 use borrow.Author.Needs.{needs}
 use Rattle.relation_coerces.proofs.Reading.{read-value, read-address}
-use Rattle.relation_coerces.proofs.Dereferences.{or-yes, or-no, auto-array, auto-view, auto-address, auto-pointer, auto-other}
+use Rattle.relation_coerces.proofs.Dereferences.{or-yes, or-no, auto-array, auto-view, auto-equal, auto-inside, auto-address, auto-other}
 use Rattle.relation_coerces.proofs.autoderefs.can_autoderef_into.Statement.{statement}
 use Rattle.relation_coerces.proofs.autoderefs.can_autoderef_into.Tie as tie
 
@@ -20,11 +20,11 @@ can-autoderef-into-spec =
     (λ c. search (auto-view, or-yes))
     (λ c. search (auto-view, or-no))
     (λ c κs. search needs)
+    (λ c. search auto-equal)
+    (λ c κs. search needs)
+    (λ c. search auto-inside)
+    (λ c κs. search needs)
     (λ c κs. search needs)
     (λ c κs. search needs)
     (λ c. search (auto-address, read-address))
-    (λ c κs. search needs)
-    (λ c κs. search needs)
-    (λ c. search (auto-pointer, read-address, or-yes))
-    (λ c. search (auto-pointer, read-address, or-no))
     (λ c. search auto-other))
