@@ -1,4 +1,4 @@
--- One look at the outer kinds, and one at what they hold, find a coercion.
+-- One look at the outer kinds, and then one comparison at most, find a coercion.
 -- Assumes nothing.
 use mathlib.Core.Path.{_≡_, refl, sym, subst}
 use mathlib.Core.Bool.{Bool, true, false, cond, _&&_}
@@ -7,7 +7,7 @@ use Prim.Native.Nat.{ℕ}
 use lib.Dec.{eqb}
 use borrow.Author.Tests.{eqb-true}
 use Rattle.type_numbers.specs.Kind as kind
-use Rattle.type_numbers.specs.CoercionNumber as number
+use Rattle.type_numbers.specs.CoercionNumber as of-coercion
 use Rattle.type_layers.specs.Layers.{Layer, outer, inside}
 use Rattle.relation_equals.specs.Equals.{identical, equals}
 use Rattle.relation_coerces.specs.Coerces.{intoSlice, intoEndlessArray, structIntoView, coerces, addressIntoSlicePointer, addressIntoEndlessArray, addressCoerces}
@@ -22,21 +22,27 @@ split P k i p q = by-test (eqb k i) refl
     by-test true e = subst P (sym (eqb-true k i e)) p
     by-test false e = q e
 
--- m is the outer kind of what b holds. What is the same: the two elements; the left one and that of what b holds; the Struct
-module _ (m : ℕ) (same under struct : Bool) where
+module _ (a b : List Layer) where
   -- of the outer kinds k and l, the merged answer is the one that is found
   abbrev Found : ℕ → ℕ → Type 0
   Found k l =
-      cond (cond (intoSlice k l) same (cond (intoEndlessArray k l m) under (cond (structIntoView k l) struct false))) number.asValue
-      (cond (cond (addressIntoSlicePointer k l) same (cond (addressIntoEndlessArray k l m) under false)) number.byAddress
-      number.none)
-      ≡ ofOpen (openTo k l) same (eqb m kind.endlessArray && under) struct
+      cond
+      (cond (intoSlice k l) (equals (inside a) (inside b))
+      (cond (intoEndlessArray k l (outer (inside b))) (equals (inside a) (inside (inside b)))
+      (cond (structIntoView k l) (identical a (inside b)) false)))
+      of-coercion.asValue
+      (cond
+      (cond (addressIntoSlicePointer k l) (equals (inside a) (inside b))
+      (cond (addressIntoEndlessArray k l (outer (inside b))) (equals (inside a) (inside (inside b))) false))
+      of-coercion.byAddress
+      of-coercion.none)
+      ≡ ofOpen (openTo k l) a b
 
   -- by whether b holds an EndlessArray
-  held : (P : Type 0) → (eqb m kind.endlessArray ≡ true → P) → (eqb m kind.endlessArray ≡ false → P) → P
-  held P p q = by-test (eqb m kind.endlessArray) refl
+  held : (P : Type 0) → (eqb (outer (inside b)) kind.endlessArray ≡ true → P) → (eqb (outer (inside b)) kind.endlessArray ≡ false → P) → P
+  held P p q = by-test (eqb (outer (inside b)) kind.endlessArray) refl
     where
-      by-test : (t : Bool) → eqb m kind.endlessArray ≡ t → P
+      by-test : (t : Bool) → eqb (outer (inside b)) kind.endlessArray ≡ t → P
       by-test true e = p e
       by-test false e = q e
 
@@ -52,6 +58,7 @@ module _ (m : ℕ) (same under struct : Bool) where
       other t u v w
 
   each : (k l : ℕ) → Found k l
+  unfolding sameInEndlessArray
   each k l =
       split (λ i. Found i l) k kind.array
       (sized kind.array l refl refl (held _ (λ q. rw q) (λ q. rw q)) (held _ (λ q. rw q) (λ q. rw q)) (λ t u v w. rw (t, u, v, w))) λ e.
@@ -64,6 +71,5 @@ module _ (m : ℕ) (same under struct : Bool) where
 
 -- What is found is the merged answer.
 pub one-look : (a b : List Layer) → coercion a b ≡ found a b
-unfolding coerces addressCoerces coercion sameInEndlessArray found
-one-look a b =
-    each (outer (inside b)) (equals (inside a) (inside b)) (equals (inside a) (inside (inside b))) (identical a (inside b)) (outer a) (outer b)
+unfolding coerces addressCoerces coercion found
+one-look a b = each a b (outer a) (outer b)

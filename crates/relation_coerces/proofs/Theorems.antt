@@ -7,7 +7,7 @@ use Prim.Native.Nat.{ℕ}
 use lib.Dec.{eqb}
 use borrow.Author.Tests.{eqb-true}
 use Rattle.type_numbers.specs.Kind as kind
-use Rattle.type_numbers.specs.CoercionNumber as number
+use Rattle.type_numbers.specs.CoercionNumber as of-coercion
 use Rattle.type_layers.specs.Layers.{Layer, layer, outer, inside, isReference}
 use Rattle.relation_equals.specs.Equals.{identical, equals}
 use Rattle.relation_equals.proofs.Theorems.{identical-equals, equals-reflexive}
@@ -71,25 +71,25 @@ never-both a b = by-answers (coerces a b) (addressCoerces a b) refl refl
 
 -- the merged answer of two questions that never both say yes
 answered : (f g : Bool) → (f && g) ≡ false →
-    let n = cond f number.asValue (cond g number.byAddress number.none) in
-    (eqb n number.asValue ≡ f) × (eqb n number.byAddress ≡ g) × (eqb n number.none ≡ not (f || g))
+    let n = cond f of-coercion.asValue (cond g of-coercion.byAddress of-coercion.none) in
+    (eqb n of-coercion.asValue ≡ f) × (eqb n of-coercion.byAddress ≡ g) × (eqb n of-coercion.none ≡ not (f || g))
 answered true true e = absurd (true≢false e)
 answered true false e = (refl, refl, refl)
 answered false true e = (refl, refl, refl)
 answered false false e = (refl, refl, refl)
 
 -- So the merged answer agrees with each of the two: it is as a value exactly where a type coerces,
-pub as-value : (a b : List Layer) → eqb (coercion a b) number.asValue ≡ coerces a b
+pub as-value : (a b : List Layer) → eqb (coercion a b) of-coercion.asValue ≡ coerces a b
 unfolding coercion
 as-value a b = answered (coerces a b) (addressCoerces a b) (never-both a b) .0
 
 -- by address exactly where its address coerces,
-pub by-address : (a b : List Layer) → eqb (coercion a b) number.byAddress ≡ addressCoerces a b
+pub by-address : (a b : List Layer) → eqb (coercion a b) of-coercion.byAddress ≡ addressCoerces a b
 unfolding coercion
 by-address a b = answered (coerces a b) (addressCoerces a b) (never-both a b) .1
 
 -- and none exactly where neither does.
-pub none-where-neither : (a b : List Layer) → eqb (coercion a b) number.none ≡ not (coerces a b || addressCoerces a b)
+pub none-where-neither : (a b : List Layer) → eqb (coercion a b) of-coercion.none ≡ not (coerces a b || addressCoerces a b)
 unfolding coercion
 none-where-neither a b = answered (coerces a b) (addressCoerces a b) (never-both a b) .2
 

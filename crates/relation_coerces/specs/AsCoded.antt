@@ -5,10 +5,10 @@ use mathlib.Core.List.{List, [], _∷_}
 use Prim.Native.Nat.{ℕ, suc, _+_}
 use lib.Dec.{eqb}
 use Rattle.type_numbers.specs.Kind as kind
-use Rattle.type_numbers.specs.CoercionNumber as number
+use Rattle.type_numbers.specs.CoercionNumber as of-coercion
 use Rattle.type_layers.specs.Layers.{Layer, outer, inside, isReference}
 use Rattle.relation_equals.specs.Equals.{sameLayer, identical, plainLayer, equals}
-use Rattle.relation_coerces.specs.Coerces.{hasLength}
+use Rattle.relation_coerces.specs.Coerces.{hasLength, intoSlice, structIntoView, addressIntoSlicePointer}
 use Rattle.relation_coerces.specs.declared.coercion.Coercion.{Coercion}
 use Rattle.relation_coerces.specs.declared.coercion.Coercion.the-variants as coded
 use Rattle.relation_coerces.specs.declared.coercion.Open.{Open}
@@ -16,35 +16,33 @@ use Rattle.relation_coerces.specs.declared.coercion.Open.the-variants as
 
 -- The number of each of the code's answers.
 abbrev pub ofCoercion : Coercion → ℕ
-ofCoercion coded.None = number.none
-ofCoercion coded.AsValue = number.asValue
-ofCoercion coded.ByAddress = number.byAddress
+ofCoercion coded.None = of-coercion.none
+ofCoercion coded.AsValue = of-coercion.asValue
+ofCoercion coded.ByAddress = of-coercion.byAddress
 
 -- What the outer kinds k and l leave open.
 abbrev pub openTo : ℕ → ℕ → Open
 openTo k l =
-    cond (hasLength k && eqb l kind.slice) (open′.Elements coded.AsValue)
-    (cond (hasLength k && eqb l kind.slicePointer) (open′.Elements coded.ByAddress)
+    cond (intoSlice k l) (open′.Elements coded.AsValue)
+    (cond (addressIntoSlicePointer k l) (open′.Elements coded.ByAddress)
     (cond ((hasLength k || eqb k kind.slice) && eqb l kind.view || eqb k kind.slicePointer && eqb l kind.pointer) (open′.Endless coded.AsValue)
     (cond (hasLength k && eqb l kind.pointer) (open′.Endless coded.ByAddress)
-    (cond (eqb k kind.struct && eqb l kind.view) open′.Struct
+    (cond (structIntoView k l) open′.Struct
     open′.Closed))))
 
--- What comes of it. What is the same: the two elements, those where the right one is of an EndlessArray, the Struct.
-abbrev pub ofOpen : Open → Bool → Bool → Bool → ℕ
-ofOpen open′.Closed elements endless struct = number.none
-ofOpen open′.Struct elements endless struct = cond struct number.asValue number.none
-ofOpen (open′.Elements c) elements endless struct = cond elements (ofCoercion c) number.none
-ofOpen (open′.Endless c) elements endless struct = cond endless (ofCoercion c) number.none
-
--- Whether a type that the right one holds is an EndlessArray of what equals the left element.
+-- Whether c, which the right type holds, is an EndlessArray whose element equals d, the left element.
 unfoldable pub sameInEndlessArray : List Layer → List Layer → Bool
 sameInEndlessArray d c = eqb (outer c) kind.endlessArray && equals d (inside c)
 
--- The outer kinds are looked at once, and then equals or identical is asked once at most.
+-- What comes of it: what is open tells the one comparison that is made.
+abbrev pub ofOpen : Open → List Layer → List Layer → ℕ
+ofOpen open′.Closed a b = of-coercion.none
+ofOpen open′.Struct a b = cond (identical a (inside b)) of-coercion.asValue of-coercion.none
+ofOpen (open′.Elements c) a b = cond (equals (inside a) (inside b)) (ofCoercion c) of-coercion.none
+ofOpen (open′.Endless c) a b = cond (sameInEndlessArray (inside a) (inside b)) (ofCoercion c) of-coercion.none
+
 unfoldable pub found : List Layer → List Layer → ℕ
-found a b =
-    ofOpen (openTo (outer a) (outer b)) (equals (inside a) (inside b)) (sameInEndlessArray (inside a) (inside b)) (identical a (inside b))
+found a b = ofOpen (openTo (outer a) (outer b)) a b
 
 -- Whether a type of the outer kind j may equal one of the outer kind l: a View or a Pointer equals only its own kind.
 abbrev pub mayEqual : ℕ → ℕ → Bool

@@ -7,7 +7,7 @@ use type_numbers::Kind;
 ghost use mathlib.Core.Path.{_≡_};
 ghost use mathlib.Core.Bool.{cond};
 ghost use lib.Dec.{eqb};
-ghost use Rattle.type_numbers.specs.CoercionNumber as number;
+ghost use Rattle.type_numbers.specs.CoercionNumber as of-coercion;
 ghost use Rattle.type_layers.specs.Layers.{layers};
 ghost use Rattle.relation_coerces.specs.Coerces.{hasLength};
 ghost use Rattle.relation_coerces.specs.Coercion.{coercion};
@@ -32,7 +32,7 @@ impl Coercion {
     }
 
     pub fn is_as_value(self) -> bool
-        ensures { λ r. ⌜ r ≡ eqb (as-coded.ofCoercion self) number.asValue ⌝ }
+        ensures { λ r. ⌜ r ≡ eqb (as-coded.ofCoercion self) of-coercion.asValue ⌝ }
     {
         match self {
             Coercion::None => false,
@@ -42,7 +42,7 @@ impl Coercion {
     }
 
     pub fn is_by_address(self) -> bool
-        ensures { λ r. ⌜ r ≡ eqb (as-coded.ofCoercion self) number.byAddress ⌝ }
+        ensures { λ r. ⌜ r ≡ eqb (as-coded.ofCoercion self) of-coercion.byAddress ⌝ }
     {
         match self {
             Coercion::None => false,
@@ -52,7 +52,7 @@ impl Coercion {
     }
 
     fn only_if(self, same: bool) -> Coercion
-        ensures { λ r. ⌜ as-coded.ofCoercion r ≡ cond same (as-coded.ofCoercion self) number.none ⌝ }
+        ensures { λ r. ⌜ as-coded.ofCoercion r ≡ cond same (as-coded.ofCoercion self) of-coercion.none ⌝ }
     {
         if same { self } else { Coercion::None }
     }

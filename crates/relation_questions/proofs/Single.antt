@@ -6,7 +6,7 @@ use Rattle.type_layers.proofs.Given.{given-is}
 use Rattle.type_layers.proofs.Single.{Single}
 use Rattle.relation_coerces.specs.AsCoded.{ofCoercion}
 use Rattle.relation_coerces.proofs.Single.{coercion-apart}
-use Rattle.relation_questions.specs.Questions.{ofCoercionAnswer}
+use Rattle.relation_questions.specs.AsCoded.{ofCoercionAnswer}
 use Rattle.relation_questions.specs.declared.ask_coercion.CoercionAnswer.{CoercionAnswer}
 use Rattle.relation_questions.specs.declared.ask_coercion.CoercionAnswer.the-variants as answer
 use Rattle.relation_questions.proofs.ask_relation.relates.Kinds as relates-kinds

@@ -5,7 +5,7 @@ use mathlib.Core.Bool.{Bool}
 use mathlib.Core.List.{List}
 use Prim.Native.Nat.{ℕ}
 use lib.Dec.{eqb}
-use Rattle.type_numbers.specs.CoercionNumber as number
+use Rattle.type_numbers.specs.CoercionNumber as of-coercion
 use Rattle.type_layers.specs.Layers.{layers}
 use Rattle.type_layers.specs.Answer.{Answer, given, nothing, refused, next, truth}
 use Rattle.type_checks.specs.Check.{checkOf}
@@ -26,13 +26,13 @@ after-checks nothing (given j) n m f e = ap truth e
 after-checks nothing nothing n m f e = ap truth e
 
 -- It answers as a value exactly where the first said yes, and refuses what that refused;
-pub value-as-it-was : (a b : List ℕ) → whether number.asValue (coercionAnswer a b) ≡ earlierValueAnswer a b
+pub value-as-it-was : (a b : List ℕ) → whether of-coercion.asValue (coercionAnswer a b) ≡ earlierValueAnswer a b
 unfolding coercionAnswer earlierValueAnswer
 value-as-it-was a b =
-    after-checks (checkOf a) (checkOf b) number.asValue (coercion (layers a) (layers b)) (coerces (layers a) (layers b)) (as-value (layers a) (layers b))
+    after-checks (checkOf a) (checkOf b) of-coercion.asValue (coercion (layers a) (layers b)) (coerces (layers a) (layers b)) (as-value (layers a) (layers b))
 
 -- by address exactly where the second did.
-pub address-as-it-was : (a b : List ℕ) → whether number.byAddress (coercionAnswer a b) ≡ earlierAddressAnswer a b
+pub address-as-it-was : (a b : List ℕ) → whether of-coercion.byAddress (coercionAnswer a b) ≡ earlierAddressAnswer a b
 unfolding coercionAnswer earlierAddressAnswer
 address-as-it-was a b =
-    after-checks (checkOf a) (checkOf b) number.byAddress (coercion (layers a) (layers b)) (addressCoerces (layers a) (layers b)) (by-address (layers a) (layers b))
+    after-checks (checkOf a) (checkOf b) of-coercion.byAddress (coercion (layers a) (layers b)) (addressCoerces (layers a) (layers b)) (by-address (layers a) (layers b))

@@ -3,17 +3,14 @@ use mathlib.Core.Bool.{Bool}
 use mathlib.Core.List.{List}
 use Prim.Native.Nat.{ℕ}
 use Rattle.type_layers.specs.Layers.{Layer, layers}
-use Rattle.type_layers.specs.Answer.{Answer, given, refused, next, truth}
+use Rattle.type_layers.specs.Answer.{Answer, given, next, truth}
 use Rattle.type_checks.specs.Check.{checkOf}
 use Rattle.relation_equals.specs.Equals.{identical, equals}
 use Rattle.relation_declared.specs.Declared.{like, declared, concretization}
 use Rattle.relation_coerces.specs.Coerces.{autoderefs, subautoderefs}
 use Rattle.relation_coerces.specs.Coercion.{coercion}
-use Rattle.relation_coerces.specs.AsCoded.{ofCoercion}
 use Rattle.relation_questions.specs.declared.ask_relation.Relation.{Relation}
 use Rattle.relation_questions.specs.declared.ask_relation.Relation.the-variants as relation
-use Rattle.relation_questions.specs.declared.ask_coercion.CoercionAnswer.{CoercionAnswer}
-use Rattle.relation_questions.specs.declared.ask_coercion.CoercionAnswer.the-variants as answer
 
 abbrev pub relates : Relation → List Layer → List Layer → Bool
 relates relation.Identical a b = identical a b
@@ -29,8 +26,3 @@ relationAnswer r a b = next (checkOf a) (next (checkOf b) (truth (relates r (lay
 
 unfoldable pub coercionAnswer : List ℕ → List ℕ → Answer ℕ
 coercionAnswer a b = next (checkOf a) (next (checkOf b) (given (coercion (layers a) (layers b))))
-
--- "When an answer is an enum, a definition gives this paper's number and values for each of its cases"
-abbrev pub ofCoercionAnswer : CoercionAnswer → Answer ℕ
-ofCoercionAnswer (answer.Given c) = given (ofCoercion c)
-ofCoercionAnswer (answer.Refused n p) = refused n p

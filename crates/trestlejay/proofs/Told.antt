@@ -11,7 +11,8 @@ use Rattle.type_checks.specs.Check.{checkOf}
 use Rattle.type_layers.proofs.Decide.{both}
 use Rattle.type_checks.proofs.Refusals.{passed}
 use Rattle.relation_coerces.specs.Coercion.{coercion}
-use Rattle.relation_questions.specs.Questions.{relates, relationAnswer, coercionAnswer, ofCoercionAnswer}
+use Rattle.relation_questions.specs.Questions.{relates, relationAnswer, coercionAnswer}
+use Rattle.relation_questions.specs.AsCoded.{ofCoercionAnswer}
 use Rattle.relation_coerces.specs.AsCoded.{ofCoercion}
 use Rattle.relation_coerces.specs.declared.coercion.Coercion.{Coercion}
 use Rattle.relation_questions.specs.declared.ask_relation.Relation.{Relation}

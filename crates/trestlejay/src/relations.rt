@@ -9,7 +9,8 @@ ghost use mathlib.Core.Path.{_≡_};
 ghost use mathlib.Core.Bool.{_&&_};
 ghost use Rattle.type_layers.specs.Answer.{truth, isGiven};
 ghost use Rattle.type_checks.specs.Check.{checkOf};
-ghost use Rattle.relation_questions.specs.Questions.{coercionAnswer, ofCoercionAnswer, relationAnswer};
+ghost use Rattle.relation_questions.specs.Questions.{coercionAnswer, relationAnswer};
+ghost use Rattle.relation_questions.specs.AsCoded.{ofCoercionAnswer};
 ghost use Rattle.write_answer.specs.Flat.{flat};
 
 // Whether both are types. Nearly all that are asked about are, and of those no refusal has to be told.

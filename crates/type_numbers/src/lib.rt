@@ -1,4 +1,4 @@
-// The numbers of the rules, by name: kinds, steps, marks, contexts, and more. In the Rust: `enum ValueType`, `enum FixContext`.
+// The numbers of the rules, by name: kinds, steps, marks, contexts, coercions, states, effects, refusals, limits. In the Rust: `enum ValueType`, `enum FixContext`.
 mod coercion_number;
 mod context;
 mod effect;
