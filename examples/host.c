@@ -58,8 +58,11 @@ static void types(void)
     say("slice can be a parameter", tj_can_be_parameter(WORDS(slice)));
     say("view, fully dereferenced, starts at word", tj_fully_dereferenced(WORDS(view)));
     say("pointer depth of view", tj_pointer_depth(WORDS(view)));
-    say("array has a stored size", tj_stored_size(WORDS(array), &size));
+    say("array has a stored size", tj_stored_size(WORDS(array), 8, &size));
     printf("which is %" PRIu64 "\n", size);
+    say("slice has one where a pointer has 4 bytes", tj_stored_size(WORDS(slice), 4, &size));
+    printf("which is %" PRIu64 "\n", size);
+    say("slice where a pointer has 5", tj_stored_size(WORDS(slice), 5, &size));
     say("highest value of the leaf of view", tj_max_u128(view + 6, 3, &low, &high));
     printf("which is %" PRIu64 " * 2^64 + %" PRIu64 "\n", high, low);
     say("words of a string literal's type", tj_for_string_literal(3, WORDS(made)));

@@ -101,7 +101,13 @@ fn array_of_array(length: u64, inner: u64, leaf: u64) {
     report(&ws);
 }
 
-// Stored sizes at the edge: the largest, one more, an element over it, no size.
+// An Array of Slices.
+fn array_of_slice(length: u64) {
+    let ws = [Kind::ARRAY, 0, length, Kind::SLICE, 0, 0, Kind::INT32, 0, 0];
+    report(&ws);
+}
+
+// Stored sizes at the edge: the largest, one more, an element over it, no size. Then those that depend on the width.
 pub(crate) fn arrays() {
     array_of_array(4294967296, 4294967295, Kind::INT8);
     array_of_array(4294967296, 4294967296, Kind::INT8);
@@ -110,4 +116,12 @@ pub(crate) fn arrays() {
     array_of_array(0, 9223372036854775807, Kind::INT16);
     array_of_array(18446744073709551615, 18446744073709551615, Kind::VOID);
     array_of_array(18446744073709551615, 0, Kind::INT128);
+    array_of_array(1, 2305843009213693951, Kind::USIZE);
+    array_of_array(1, 2305843009213693952, Kind::USIZE);
+    array_of_array(0, 4611686018427387903, Kind::USIZE);
+    array_of_array(0, 4611686018427387904, Kind::USIZE);
+    array_of_slice(1152921504606846975);
+    array_of_slice(1152921504606846976);
+    array_of_slice(2305843009213693951);
+    array_of_slice(2305843009213693952);
 }

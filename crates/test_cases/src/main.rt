@@ -6,6 +6,7 @@ mod inputs;
 mod relations;
 mod report;
 mod types;
+mod widths;
 
 fn main() {
     report::heading();
@@ -14,6 +15,7 @@ fn main() {
     inputs::leaves();
     inputs::nested();
     inputs::arrays();
+    widths::widths();
     bad_words::bad_words();
     relations::pairs();
     fixing::fixing();

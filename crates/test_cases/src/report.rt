@@ -57,7 +57,7 @@ fn start(s: Start) {
     }
 }
 
-fn size(s: Size) {
+pub(crate) fn size(s: Size) {
     match s {
         Size::Bytes(n) => given(n),
         Size::Nothing => text(b" -"),
@@ -118,14 +118,15 @@ fn measures(ws: &[u64]) {
     count(type_size_and_depth::pointer_depth(ws));
     bound(type_bounds::min_i128(ws));
     bound(type_bounds::max_u128(ws));
-    size(type_stored_size::stored_size(ws));
+    size(type_stored_size::stored_size(ws, 4));
+    size(type_stored_size::stored_size(ws, 8));
 }
 
 pub(crate) fn heading() {
     text(b"words: layers wellformed void integral signed bitfield slice_pointer");
     text(b" | sized struct_member word_member constant variable parameter returned");
     text(b" | element pointee viewee dereferenced");
-    text(b" | known depth min max stored\n");
+    text(b" | known depth min max stored_with_4 stored_with_8\n");
 }
 
 // One line: how many words, the first layer, the second's kind, and every answer.

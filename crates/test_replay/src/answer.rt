@@ -62,12 +62,12 @@ fn part(f: u64, t: &[u64]) -> Answer {
     }
 }
 
-fn measure(f: u64, t: &[u64]) -> Got {
+fn measure(f: u64, t: &[u64], beside: &[u64]) -> Got {
     let mut first = BEFORE;
     let mut second = BEFORE;
     let answer = match f {
         19 => trestlejay::tj_known_size_in_bytes_as_word_member(t, &mut first),
-        20 => trestlejay::tj_stored_size(t, &mut first),
+        20 => trestlejay::tj_stored_size(t, word(beside, 0), &mut first),
         21 => trestlejay::tj_min_i128(t, &mut first, &mut second),
         _ => trestlejay::tj_max_u128(t, &mut first, &mut second),
     };
@@ -103,7 +103,7 @@ fn ask(f: u64, a: &[u64], b: &[u64]) -> Got {
         return plain(part(f, a));
     }
     if f < 23 {
-        return measure(f, a);
+        return measure(f, a, b);
     }
     plain(relation(f, a, b))
 }

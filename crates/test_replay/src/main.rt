@@ -6,7 +6,8 @@
 // where written, a and b are runs, each a count and so many words. Behind them lines about symbols and plans have the runs target and
 // steps, and a table: a count of records, and of each its six fields and the run of words that stand in its part of the store.
 //
-// 0 to 30 ask about the type a, or about a and b, in the header's order. Written is what stands behind the pointers.
+// 0 to 30 ask about the type a, or about a and b, in the header's order; of 20, b is the width. Written is what stands
+//    behind the pointers.
 // 31 fixes a. b: 1 where it is extern, the context, the words lent. Written is the type.
 // 32 updates the table's only record, lent alone, by the offered type a. b: id, authority, place, mark, the store's words.
 // 33 to 38 put nothing, a type, poison, forward declare a type, poison, and get; a and b as above.

@@ -17,7 +17,8 @@ use borrow.Fn.Kinds.{Out, Dens, resT, endedOf}
 use Rattle.type_layers.proofs.Single.{Single}
 use Rattle.trestlejay.proofs.properties.tj_check.Kinds as of-type
 use Rattle.trestlejay.proofs.relations.tj_equals.Kinds as of-pair
-use Rattle.trestlejay.proofs.measures.tj_stored_size.Kinds as with-size
+use Rattle.trestlejay.proofs.measures.tj_known_size_in_bytes_as_word_member.Kinds as with-size
+use Rattle.trestlejay.proofs.measures.tj_stored_size.Kinds as with-width
 use Rattle.trestlejay.proofs.measures.tj_min_i128.Kinds as with-halves
 use Rattle.trestlejay.proofs.fixing.tj_fix_type_for_flags.Kinds as with-buffer
 use Rattle.trestlejay.proofs.properties.tj_check.Reads as tj-check
@@ -163,7 +164,8 @@ SingleWithSize Q =
 pub tj-known-size-in-bytes-as-word-member-single : SingleWithSize tj-known-size-in-bytes-as-word-member.Post
 tj-known-size-in-bytes-as-word-member-single κs a x y s t p q = (p .0 ∙ sym (q .0), p .1 ∙ sym (q .1))
 
-pub tj-stored-size-single : SingleWithSize tj-stored-size.Post
+pub tj-stored-size-single : (κs : Lfts 2) (a : Dens κs with-width.ps) (x y : resT with-width.r κs .Denot) (s t : AtExit (endedOf 2 with-width.ps with-width.r) κs) →
+    tj-stored-size.Post κs a x s → tj-stored-size.Post κs a y t → (x ≡ y) × (now (s .1 .1 .0) ≡ now (t .1 .1 .0))
 tj-stored-size-single κs a x y s t p q = (p .0 ∙ sym (q .0), p .1 ∙ sym (q .1))
 
 abbrev SingleWithHalves : Out 3 with-halves.ps with-halves.r → Type 0

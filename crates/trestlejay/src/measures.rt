@@ -26,11 +26,11 @@ pub extern "C" fn tj_known_size_in_bytes_as_word_member(t: &[u64], size: &mut u6
 }
 
 #[no_mangle]
-pub extern "C" fn tj_stored_size(t: &[u64], size: &mut u64) -> Answer
-    ensures answer { λ r. ⌜ r ≡ rules.flatFound (storedSizeAnswer (now (t .entry))) ⌝ }
-    ensures written { λ _. ⌜ now (size .exit) ≡ rules.foundAfter (storedSizeAnswer (now (t .entry))) (now (size .entry)) ⌝ }
+pub extern "C" fn tj_stored_size(t: &[u64], width: u64, size: &mut u64) -> Answer
+    ensures answer { λ r. ⌜ r ≡ rules.flatFound (storedSizeAnswer width (now (t .entry))) ⌝ }
+    ensures written { λ _. ⌜ now (size .exit) ≡ rules.foundAfter (storedSizeAnswer width (now (t .entry))) (now (size .entry)) ⌝ }
 {
-    face_measures::size(type_stored_size::stored_size(t), size)
+    face_measures::size(type_stored_size::stored_size(t, width), size)
 }
 
 #[no_mangle]

@@ -17,7 +17,7 @@ badLeaf = 3
 abbrev pub illFormed : ℕ
 illFormed = 4
 
--- "5 bad context, step, step count or rounds"
+-- "5 bad context, step, step count or rounds", and by request g "5 for another width"
 abbrev pub badRequest : ℕ
 badRequest = 5
 

@@ -1,7 +1,7 @@
 -- The stored size of a run of words.
 -- Assumes nothing.
-use mathlib.Core.Path.{_≡_}
-use mathlib.Core.Bool.{cond, _||_}
+use mathlib.Core.Path.{_≡_, refl, sym, ap, _∙_}
+use mathlib.Core.Bool.{Bool, true, false, cond, _||_}
 use mathlib.Core.List.{List}
 use Prim.Native.Nat.{ℕ, _*_, _/_, _-_, _^_, _≤_, _<_}
 use native.Mathlib.Omega.{arith}
@@ -10,14 +10,18 @@ use mir.Syntax.{w64}
 use mir.Val.{Fits}
 use lib.Dec.{eqb}
 use lib.ListN.{length, getD}
-use borrow.Author.Tests.{lt-ltb, le-ltb, ne-eqb}
+use borrow.Author.Tests.{lt-ltb, le-ltb, eqb-true, ne-eqb}
 use Rattle.type_numbers.specs.Kind as kind
+use Rattle.type_numbers.specs.Refusal as refusal
 use Rattle.type_layers.specs.Layers.{layers}
-use Rattle.type_layers.specs.Answer.{Answer, given, nothing, refused}
+use Rattle.type_layers.specs.Answer.{Answer, given, nothing, refused, ofChecked}
+use Rattle.type_layers.specs.declared.answers.Checked.{Checked}
+use Rattle.type_layers.specs.declared.answers.Checked.the-variants.{Good}
+use Rattle.type_layers.proofs.Given.{not-given}
 use Rattle.type_layers.proofs.Words.{none, more, rest}
 use Rattle.type_size_and_depth.specs.AsCoded.{ofSize}
 use Rattle.type_size_and_depth.specs.Known.{knownSize}
-use Rattle.type_stored_size.specs.StoredSize.{product, times, storedSize}
+use Rattle.type_stored_size.specs.StoredSize.{widthAnswer, hasOneWidth, hasTwoWidths, product, times, storedSize}
 use Rattle.type_size_and_depth.specs.declared.answers.Size.{Size}
 use Rattle.type_size_and_depth.specs.declared.answers.Size.the-variants as size
 
@@ -66,8 +70,17 @@ module _ (w : ℕ) (ws : List ℕ) where
 
   pub stored-other : (r : Answer ℕ) → 3 ≤ length ws → (getD ws 0 0 ≡ kind.array → ⊥) →
       r
-      ≡ cond (eqb (getD ws 0 0) kind.usize || eqb (getD ws 0 0) kind.pointer || eqb (getD ws 0 0) kind.view) (given w)
-      (cond (eqb (getD ws 0 0) kind.slice || eqb (getD ws 0 0) kind.slicePointer) (given (2 * w)) (knownSize (layers ws))) →
+      ≡ cond (hasOneWidth (getD ws 0 0)) (given w)
+      (cond (hasTwoWidths (getD ws 0 0)) (given (2 * w)) (knownSize (layers ws))) →
       r ≡ storedSize w (layers ws)
   unfolding storedSize knownSize
   stored-other r h e q = rw (more ws, ne-eqb (getD ws 0 0) kind.array e) (rw (more ws) at q)
+
+-- a width that passed is small enough for two of them
+pub at-most-8 : (w n : ℕ) (x : Checked) → ofChecked x ≡ widthAnswer w → x ≡ Good n → w ≤ 8
+at-most-8 w n x e h = by-tests (eqb w 4) (eqb w 8) refl refl (ap ofChecked (sym h) ∙ e)
+  where
+    by-tests : (s t : Bool) → eqb w 4 ≡ s → eqb w 8 ≡ t → given n ≡ cond (s || t) (given w) (refused refusal.badRequest 0) → w ≤ 8
+    by-tests true t p q g = omega (arith, eqb-true w 4 p)
+    by-tests false true p q g = omega (arith, eqb-true w 8 q)
+    by-tests false false p q g = absurd (not-given 5 0 n (sym g))

@@ -1,1 +1,2 @@
 pub mod StoredSize
+pub mod Earlier

@@ -5,12 +5,17 @@ use type_numbers::Refusal;
 use type_size_and_depth::Size;
 use type_size_and_depth::known_size;
 ghost use mathlib.Core.Path.{_≡_};
+ghost use Prim.Native.Nat.{_≤_};
 ghost use Rattle.type_layers.specs.Layers.{layers};
+ghost use Rattle.type_layers.specs.Answer.{ofChecked};
 ghost use Rattle.type_size_and_depth.specs.AsCoded.{ofSize};
-ghost use Rattle.type_stored_size.specs.StoredSize.{width, product, times, storedSize, storedSizeAnswer};
+ghost use Rattle.type_stored_size.specs.StoredSize.{widthAnswer, product, times, storedSize, storedSizeAnswer};
 
-// The bytes of a pointer.
-const WIDTH: u64 = 8;
+// The bytes of a pointer on the small target.
+const SMALL: u64 = 4;
+
+// The bytes of a pointer elsewhere.
+const LARGE: u64 = 8;
 
 // The largest size.
 const MOST: u64 = 18446744073709551615;
@@ -42,8 +47,9 @@ fn array_size(length: u64, element: Size) -> Size
     }
 }
 
-// The stored size; of no layer none.
-fn stored(a: &[u64]) -> Size
+// The stored size, with pointers of so many bytes; of no layer none.
+fn stored(a: &[u64], width: u64) -> Size
+    requires { ⌜ width ≤ 8 ⌝ }
     ensures { λ r. ⌜ ofSize r ≡ storedSize width (layers (now (a .entry))) ⌝ }
 {
     if a.len() < 3 {
@@ -51,23 +57,39 @@ fn stored(a: &[u64]) -> Size
     }
     let k = a[0];
     if k == Kind::ARRAY {
-        return array_size(a[2], stored(&a[3..]));
+        return array_size(a[2], stored(&a[3..], width));
     }
     if (k == Kind::USIZE) | (k == Kind::POINTER) | (k == Kind::VIEW) {
-        return Size::Bytes(WIDTH);
+        return Size::Bytes(width);
     }
     if (k == Kind::SLICE) | (k == Kind::SLICE_POINTER) {
-        return Size::Bytes(2 * WIDTH);
+        return Size::Bytes(2 * width);
     }
     known_size(a)
 }
 
-// The stored size, for any words.
-pub fn stored_size(a: &[u64]) -> Size
-    ensures { λ r. ⌜ ofSize r ≡ storedSizeAnswer (now (a .entry)) ⌝ }
+// The width, or the refusal of another.
+fn check_width(width: u64) -> Checked
+    ensures { λ r. ⌜ ofChecked r ≡ widthAnswer width ⌝ }
+{
+    if (width == SMALL) | (width == LARGE) {
+        return Checked::Good(width);
+    }
+    Checked::Refused {
+        number: Refusal::BAD_REQUEST,
+        place: 0,
+    }
+}
+
+// The stored size with pointers of so many bytes, for any words and any width.
+pub fn stored_size(a: &[u64], width: u64) -> Size
+    ensures { λ r. ⌜ ofSize r ≡ storedSizeAnswer width (now (a .entry)) ⌝ }
 {
     match check_type(a) {
         Checked::Refused { number, place } => Size::Refused { number, place },
-        Checked::Good(_) => stored(a),
+        Checked::Good(_) => match check_width(width) {
+            Checked::Refused { number, place } => Size::Refused { number, place },
+            Checked::Good(_) => stored(a, width),
+        },
     }
 }

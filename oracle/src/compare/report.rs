@@ -39,6 +39,7 @@ fn difference(name: &str, d: &Difference) {
     if !d.b.is_empty() {
         let name = match name {
             "fix_type_for_flags" => "flags",
+            "stored_size" => "width",
             _ => "right",
         };
         println!("  {name:10}{:?}", d.b);

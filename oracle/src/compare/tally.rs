@@ -1,7 +1,7 @@
 //! Counts the cases of the questions about types.
 
 use crate::face::type_face;
-use crate::judge::questions::{answer, Answer, FIXING, QUESTIONS, RELATIONS};
+use crate::judge::questions::{answer, Answer, FIXING, QUESTIONS, RELATIONS, STORED, WIDTHS};
 
 /// The cases of one question.
 #[derive(Default)]
@@ -60,9 +60,13 @@ impl Tallies {
         self.0[question].count(a, b, expected, found);
     }
 
+    /// Every question about one type, the stored size with every width.
     pub fn ask_one(&mut self, a: &[u64]) {
-        for question in 0..RELATIONS {
+        for question in (0..RELATIONS).filter(|question| *question != STORED) {
             self.ask(question, a, &[]);
+        }
+        for width in WIDTHS {
+            self.ask(STORED, a, &[width]);
         }
     }
 

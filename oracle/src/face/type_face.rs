@@ -32,7 +32,7 @@ extern "C" {
     pub fn tj_pointer_depth(t: *const u64, n: usize) -> Raw;
 
     pub fn tj_known_size_in_bytes_as_word_member(t: *const u64, n: usize, size: *mut u64) -> Raw;
-    pub fn tj_stored_size(t: *const u64, n: usize, size: *mut u64) -> Raw;
+    pub fn tj_stored_size(t: *const u64, n: usize, width: u64, size: *mut u64) -> Raw;
     pub fn tj_min_i128(t: *const u64, n: usize, low: *mut u64, high: *mut u64) -> Raw;
     pub fn tj_max_u128(t: *const u64, n: usize, low: *mut u64, high: *mut u64) -> Raw;
 
@@ -61,11 +61,12 @@ extern "C" {
 enum Entry {
     One(unsafe extern "C" fn(*const u64, usize) -> Raw),
     Size(unsafe extern "C" fn(*const u64, usize, *mut u64) -> Raw),
+    Stored(unsafe extern "C" fn(*const u64, usize, u64, *mut u64) -> Raw),
     Halves(unsafe extern "C" fn(*const u64, usize, *mut u64, *mut u64) -> Raw),
     Two(unsafe extern "C" fn(*const u64, usize, *const u64, usize) -> Raw),
 }
 
-use Entry::{Halves, One, Size, Two};
+use Entry::{Halves, One, Size, Stored, Two};
 
 static ENTRIES: [Entry; 31] = [
     One(tj_check),
@@ -88,7 +89,7 @@ static ENTRIES: [Entry; 31] = [
     One(tj_fully_dereferenced),
     One(tj_pointer_depth),
     Size(tj_known_size_in_bytes_as_word_member),
-    Size(tj_stored_size),
+    Stored(tj_stored_size),
     Halves(tj_min_i128),
     Halves(tj_max_u128),
     Two(tj_identical),
@@ -127,6 +128,7 @@ pub fn answer(question: usize, a: &[u64], b: &[u64]) -> Result<Answer, String> {
         match &ENTRIES[question] {
             One(entry) => (entry(pa, a.len()), 0),
             Size(entry) => (entry(pa, a.len(), p1), 1),
+            Stored(entry) => (entry(pa, a.len(), b[0], p1), 1),
             Halves(entry) => (entry(pa, a.len(), p1, p2), 2),
             Two(entry) => (entry(pa, a.len(), pb, b.len()), 0),
         }

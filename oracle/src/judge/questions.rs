@@ -19,8 +19,10 @@ pub enum Question {
     Role(fn(&ValueType) -> bool),
     /// An inner type, as the word at which it starts, or 0 for none.
     Inner(fn(&ValueType) -> Option<ValueType>),
-    /// Written where there is one; the error is a refusal.
-    Size(fn(&[Layer], &ValueType) -> Result<Option<u64>, u64>),
+    /// Written where there is one.
+    Size(fn(&ValueType) -> Option<u64>),
+    /// The same, with pointers of so many bytes; the error is a refusal.
+    Stored(fn(&[Layer], u64) -> Result<Option<u64>, u64>),
     /// Written as low and high half.
     Halves(fn(&ValueType) -> u128),
     /// 1 for yes; of `coerces`, one of three numbers.
@@ -29,7 +31,7 @@ pub enum Question {
     Fix(fn(&ValueType, bool, u64) -> Result<ValueType, Refusal>),
 }
 
-use Question::{Fix, Halves, Inner, Number, Relation, Role, Size};
+use Question::{Fix, Halves, Inner, Number, Relation, Role, Size, Stored};
 
 pub const QUESTIONS: [(&str, Question); 32] = [
     ("check", Number(|t| encode(t).len() as u64 / 3)),
@@ -56,12 +58,12 @@ pub const QUESTIONS: [(&str, Question); 32] = [
     ("pointer_depth", Number(|t| t.pointer_depth() as u64)),
     (
         "known_size_in_bytes_as_word_member",
-        Size(|_, t| {
-            Ok(t.known_size_in_bytes_as_word_member()
-                .map(|size| size as u64))
+        Size(|t| {
+            t.known_size_in_bytes_as_word_member()
+                .map(|size| size as u64)
         }),
     ),
-    ("stored_size", Size(|layers, _| stored_size(layers))),
+    ("stored_size", Stored(stored_size)),
     ("min_i128", Halves(|t| t.min_i128() as u128)),
     ("max_u128", Halves(|t| t.max_u128())),
     ("identical", Relation(|a, b| (a == b).into())),
@@ -87,13 +89,20 @@ pub const QUESTIONS: [(&str, Question); 32] = [
     ("fix_type_for_flags", Fix(fix)),
 ];
 
+/// Asked of a type and a width.
+pub const STORED: usize = 20;
+
+/// The two widths, and some that are none.
+pub const WIDTHS: [u64; 8] = [4, 8, 0, 1, 2, 5, 16, u64::MAX];
+
 /// Those before are asked of one type, those from here on of two.
 pub const RELATIONS: usize = 23;
 
 /// Asked of a type and three numbers: 1 where it is extern, the context, the output's words.
 pub const FIXING: usize = 31;
 
-/// The answer to a question about the words a and, for a relation, b; for fixing, b is the numbers.
+/// The answer to a question about the words a and, for a relation, b; for the stored size, b is the width;
+/// for fixing, the numbers.
 pub fn answer(question: usize, a: &[u64], b: &[u64]) -> Answer {
     let refused = |(refusal, value)| Answer {
         refusal,
@@ -112,9 +121,9 @@ pub fn answer(question: usize, a: &[u64], b: &[u64]) -> Answer {
             ask(&left).map_or(0, |inner| start_of(&inner, a)),
             Vec::new(),
         ),
-        Size(ask) => match ask(&layers, &left) {
-            Ok(Some(size)) => (1, vec![size]),
-            Ok(None) => (0, Vec::new()),
+        Size(ask) => sized(ask(&left)),
+        Stored(ask) => match ask(&layers, b[0]) {
+            Ok(size) => sized(size),
             Err(number) => return refused((number, 0)),
         },
         Halves(ask) => {
@@ -138,6 +147,11 @@ pub fn answer(question: usize, a: &[u64], b: &[u64]) -> Answer {
         value,
         written,
     }
+}
+
+/// 1 and the size, or 0 and nothing.
+fn sized(size: Option<u64>) -> (u64, Vec<u64>) {
+    (size.is_some() as u64, size.into_iter().collect())
 }
 
 /// 0 where a type does not coerce into another, 1 as a value, 2 by its address. The original has two

@@ -6,7 +6,7 @@ use super::listed_symbols::{update, Played};
 use crate::inputs::random::Random;
 use crate::inputs::relatives::pair;
 use crate::inputs::types::*;
-use crate::judge::questions::{answer, Answer, FIXING, QUESTIONS, RELATIONS};
+use crate::judge::questions::{answer, Answer, FIXING, QUESTIONS, RELATIONS, STORED, WIDTHS};
 use std::collections::HashMap;
 
 /// So many inputs are tried for a line; the one whose answer was rarest so far is kept, so that
@@ -75,18 +75,28 @@ pub fn answers(count: usize, seed: u64) -> String {
             played = Played::new(&mut random);
         }
         list += &match place.checked_sub(QUESTIONS.len()) {
-            None => about_types(place, &mut random, &mut seen),
+            None => {
+                let turn = line / (QUESTIONS.len() + later.len());
+                about_types(place, turn, &mut random, &mut seen)
+            }
             Some(place) => about_lent(later[place], &mut random, &mut seen, &mut played),
         };
     }
     list
 }
 
-fn about_types(question: usize, random: &mut Random, seen: &mut Seen) -> String {
-    let tries = (0..TRIES).map(|_| {
-        let (a, b) = input(question, random);
+/// The widths of a stored size take turns too, and each is a sort of its own.
+fn about_types(question: usize, turn: usize, random: &mut Random, seen: &mut Seen) -> String {
+    let tries = (0..TRIES).map(|i| {
+        let (a, mut b) = input(question, random);
+        if question == STORED {
+            b = vec![WIDTHS[(turn + i) % WIDTHS.len()]];
+        }
         let given = answer(question, &a, &b);
-        let beside = [given.value, given.written.len() as u64];
+        let beside = match question {
+            STORED => [given.value, b[0]],
+            _ => [given.value, given.written.len() as u64],
+        };
         let sort = sort(question, &given, beside);
         (sort, (given, a, b))
     });

@@ -1,11 +1,15 @@
 //! The lines of the program `test_cases`, as the original answers them: the same words in the same order.
 
-use crate::judge::questions::{answer, Answer, Question, FIXING, QUESTIONS, RELATIONS};
+use crate::judge::questions::{answer, Answer, Question, FIXING, QUESTIONS, RELATIONS, STORED};
 use std::fmt::Write;
 
 const HEADING: &str = "words: layers wellformed void integral signed bitfield slice_pointer \
     | sized struct_member word_member constant variable parameter returned \
-    | element pointee viewee dereferenced | known depth min max stored\n";
+    | element pointee viewee dereferenced \
+    | known depth min max stored_with_4 stored_with_8\n";
+
+const WIDTHS: &str =
+    "stored with: int64 usize pointer view slice slice_pointer three_slices void too_large no_kind\n";
 
 const BAD_WORDS: &str = "kind at layer, of sixteen: | the names 0 1 4294967295 4294967296, \
     each with the numbers 0 1 2 18446744073709551615\n";
@@ -15,9 +19,9 @@ const PAIRS: &str = "left right: identical equals like declared concretization \
 
 const FIXES: &str = "type external context: fixed | buffer | in eight words\n";
 
-/// The columns, by the questions' numbers, and where a bar parts them.
-const COLUMNS: [usize; 23] = [
-    0, 1, 2, 3, 4, 5, 6, 7, 8, 9, 10, 11, 12, 13, 14, 15, 16, 17, 19, 18, 21, 22, 20,
+/// The columns but those of stored sizes, by the questions' numbers, and where a bar parts them.
+const COLUMNS: [usize; 22] = [
+    0, 1, 2, 3, 4, 5, 6, 7, 8, 9, 10, 11, 12, 13, 14, 15, 16, 17, 19, 18, 21, 22,
 ];
 const BARS: [usize; 3] = [7, 14, 18];
 
@@ -27,6 +31,8 @@ const POINTER: u64 = 23;
 pub fn cases() -> String {
     let mut lines = String::from(HEADING);
     one_type(&mut lines);
+    lines.push_str(WIDTHS);
+    widths(&mut lines);
     lines.push_str(BAD_WORDS);
     bad_words(&mut lines);
     lines.push_str(PAIRS);
@@ -60,7 +66,41 @@ fn one_type(lines: &mut String) {
     for (length, inner, leaf) in ARRAYS {
         report(lines, &[14, 0, length, 14, 0, inner, leaf, 0, 0]);
     }
+    for length in SLICES {
+        report(lines, &[14, 0, length, 16, 0, 0, INT32, 0, 0]);
+    }
 }
+
+/// Stored sizes with every width from 0 to 17, and with the largest number.
+fn widths(lines: &mut String) {
+    for width in (0..18).chain([u64::MAX]) {
+        write!(lines, "width {width}:").unwrap();
+        MEASURED.iter().for_each(|t| stored(lines, t, width));
+        lines.push('\n');
+    }
+}
+
+fn stored(lines: &mut String, words: &[u64], width: u64) {
+    write!(
+        lines,
+        " {}",
+        shown(STORED, &answer(STORED, words, &[width]))
+    )
+    .unwrap();
+}
+
+const MEASURED: [&[u64]; 10] = [
+    &[4, 0, 0],
+    &[11, 0, 0],
+    &[23, 0, 0, 3, 0, 0],
+    &[24, 0, 0, 3, 0, 0],
+    &[16, 0, 0, 3, 0, 0],
+    &[17, 0, 0, 3, 0, 0],
+    &[14, 0, 3, 16, 0, 0, 3, 0, 0],
+    &[0, 0, 0],
+    &[14, 0, 0, 14, 0, 9223372036854775808, 2, 0, 0],
+    &[25, 0, 0],
+];
 
 /// Every kind and the first number that is none, in three layers of sixteen, with good and bad names and
 /// numbers in every combination.
@@ -92,7 +132,7 @@ const FIELDS: [(u64, u64); 9] = [
     (0, u64::MAX),
 ];
 
-const ARRAYS: [(u64, u64, u64); 7] = [
+const ARRAYS: [(u64, u64, u64); 11] = [
     (4294967296, 4294967295, 1),
     (4294967296, 4294967296, 1),
     (1, u64::MAX, 13),
@@ -100,6 +140,17 @@ const ARRAYS: [(u64, u64, u64); 7] = [
     (0, 9223372036854775807, 2),
     (u64::MAX, u64::MAX, 0),
     (u64::MAX, 0, 5),
+    (1, 2305843009213693951, 11),
+    (1, 2305843009213693952, 11),
+    (0, 4611686018427387903, 11),
+    (0, 4611686018427387904, 11),
+];
+
+const SLICES: [u64; 4] = [
+    1152921504606846975,
+    1152921504606846976,
+    2305843009213693951,
+    2305843009213693952,
 ];
 
 fn report(lines: &mut String, words: &[u64]) {
@@ -118,6 +169,7 @@ fn report(lines: &mut String, words: &[u64]) {
         }
         write!(lines, " {}", shown(question, &answer(question, words, &[]))).unwrap();
     }
+    [4, 8].iter().for_each(|width| stored(lines, words, *width));
     lines.push('\n');
 }
 
@@ -127,8 +179,8 @@ fn shown(question: usize, given: &Answer) -> String {
         return format!("!{}@{}", given.refusal, given.value);
     }
     match QUESTIONS[question].1 {
-        Question::Size(_) if given.value == 1 => given.written[0].to_string(),
-        Question::Size(_) => "-".to_string(),
+        Question::Size(_) | Question::Stored(_) if given.value == 1 => given.written[0].to_string(),
+        Question::Size(_) | Question::Stored(_) => "-".to_string(),
         Question::Inner(_) if given.value == 0 && question != 17 => "-".to_string(),
         Question::Halves(_) => format!("{:x}:{:x}", given.written[1], given.written[0]),
         _ => given.value.to_string(),

@@ -1,6 +1,6 @@
 //! A type's words, as document 01 writes them: the checks 1 to 3, with the place of 2 as document 02's
 //! letter e has it, and to and from the original's type. Stored size, which the original has not, is
-//! written from document 01 too.
+//! written from document 01 and document 02's letter g.
 
 use super::prelude::{Identifier, ValueType};
 
@@ -211,17 +211,27 @@ fn outer_layer(value_type: &ValueType) -> (Layer, Option<&ValueType>) {
     }
 }
 
-/// Stored size in bytes (added by document 01): Ok(None) is "no size", Err is refusal 17.
-pub fn stored_size(layers: &[Layer]) -> Result<Option<u64>, u64> {
+/// Stored size in bytes (added by document 01), with pointers of so many bytes, 4 or 8 (document 02's
+/// letter g): Ok(None) is "no size", Err is refusal 5 or 17.
+pub fn stored_size(layers: &[Layer], width: u64) -> Result<Option<u64>, u64> {
+    match width {
+        4 | 8 => measured(layers, width),
+        _ => Err(5),
+    }
+}
+
+fn measured(layers: &[Layer], width: u64) -> Result<Option<u64>, u64> {
     let [kind, _, number] = layers[0];
     Ok(match kind {
         1 | 6 | 12 | 13 => Some(1),
         2 | 7 => Some(2),
         3 | 8 => Some(4),
-        4 | 9 | 11 | 23 | 24 => Some(8),
-        5 | 10 | 16 | 17 => Some(16),
+        4 | 9 => Some(8),
+        5 | 10 => Some(16),
+        11 | 23 | 24 => Some(width),
+        16 | 17 => Some(width + width),
         WORD => Some(number),
-        ARRAY => match stored_size(&layers[1..])? {
+        ARRAY => match measured(&layers[1..], width)? {
             Some(element) => Some(number.checked_mul(element).ok_or(17u64)?),
             None => None,
         },

@@ -17,6 +17,7 @@ pub fn smoke() -> (u64, u64) {
     type_looks::words(&mut smoke);
     type_looks::bad_words(&mut smoke);
     type_looks::types(&mut smoke);
+    type_looks::stored_sizes(&mut smoke);
     function_looks::every_function(&mut smoke);
     relation_looks::relations(&mut smoke);
     symbol_looks::updates(&mut smoke);

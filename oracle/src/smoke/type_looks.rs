@@ -2,7 +2,7 @@
 
 use super::count::Smoke;
 use super::few_types::*;
-use crate::judge::questions::{answer, QUESTIONS};
+use crate::judge::questions::{answer, QUESTIONS, STORED};
 use crate::original::words::{bad_word, check, encode, is_good};
 
 pub fn words(smoke: &mut Smoke) {
@@ -117,16 +117,28 @@ pub fn types(smoke: &mut Smoke) {
         ask_of("max_u128", &[5, 0, 0]),
         (0, 0, vec![u64::MAX, u64::MAX >> 1]),
     );
+}
+
+pub fn stored_sizes(smoke: &mut Smoke) {
     let halves = [[14, 0, 0], [14, 0, 1 << 63], [2, 0, 0]].concat();
-    smoke.same(
-        "stored size over",
-        ask_of("stored_size", &halves),
-        (17, 0, vec![]),
-    );
     let none = [[14, 0, u64::MAX], [14, 0, u64::MAX], [20, 0, 0]].concat();
-    smoke.same(
-        "no stored size",
-        ask_of("stored_size", &none),
-        (0, 0, vec![]),
-    );
+    let table = [[14, 0, 3], [16, 0, 0], INT32].concat();
+    let addresses = [[14, 0, 1 << 61], [11, 0, 0]].concat();
+    let looks: [(&str, &[u64], u64, (u64, Option<u64>)); 10] = [
+        ("stored size over", &halves, 8, (17, None)),
+        ("no stored size", &none, 8, (0, None)),
+        ("three slices on 4", &table, 4, (0, Some(24))),
+        ("three slices on 8", &table, 8, (0, Some(48))),
+        ("a Usize on 4", &[11, 0, 0], 4, (0, Some(4))),
+        ("an Int64 on 4", &[4, 0, 0], 4, (0, Some(8))),
+        ("fits on 4", &addresses, 4, (0, Some(1 << 63))),
+        ("over on 8", &addresses, 8, (17, None)),
+        ("width before 17", &halves, 5, (5, None)),
+        ("type before width", &[25, 0, 0], 5, (2, None)),
+    ];
+    for (what, words, width, (refusal, size)) in looks {
+        let given = answer(STORED, words, &[width]);
+        let found = (given.refusal, given.written.first().copied());
+        smoke.same(what, found, (refusal, size));
+    }
 }

@@ -1,6 +1,7 @@
 use borrow.Author.Needs.{needs}
 use Rattle.type_checks.proofs.Refusals.{refuses, accepts}
 use Rattle.type_stored_size.specs.StoredSize.{storedSizeAnswer}
+use Rattle.type_stored_size.proofs.Measured.{at-most-8}
 use Rattle.type_stored_size.proofs.stored_sizes.stored_size.Statement.{statement}
 use Rattle.type_stored_size.proofs.stored_sizes.stored_size.Tie as tie
 
@@ -13,5 +14,9 @@ stored-size-spec =
     (λ c. search needs)
     (λ c. search needs)
     (λ c κs. search needs)
+    (λ c. search needs)
+    (λ c. search needs)
+    (λ c κs. search at-most-8)
     (λ c. search refuses)
+    (λ c. search (accepts, refuses))
     (λ c. search accepts))
