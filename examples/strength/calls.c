@@ -81,18 +81,28 @@ static bool ask_one(size_t which, uint64_t *refusal)
     return answered(a, ones[which].most) && names_its_word(a, t, n) && kept(0);
 }
 
-/* The known size, or the stored one with some width: 4 and 8 are not refused with 5, any other is refused. */
+/* A pointer's width, mostly one of the two. */
+static uint64_t some_width(void)
+{
+    if (once_in(8))
+        return once_in(2) ? below(18) : some_number();
+    return once_in(2) ? 4 : 8;
+}
+
+/* The known size, or the stored one. With 4 or 8 this is not refused with 5; any other width is refused, and not
+ * with 17. */
 static bool ask_size(size_t which, uint64_t *refusal)
 {
     uint64_t words[ROOM];
     size_t n;
     const uint64_t *t = lent_type(words, &n);
-    uint64_t width = which == 0 || once_in(2) ? 8 : once_in(4) ? some_number() : 4;
+    uint64_t width = which == 0 ? 8 : some_width();
+    bool known = width == 4 || width == 8;
     uint64_t *size = lend_room(8);
     tj_answer a = which == 0 ? tj_known_size_in_bytes_as_word_member(t, n, size) : tj_stored_size(t, n, width, size);
     *refusal = a.refusal;
     return answered(a, 1) && kept(0) && (a.value == 1 || kept(1)) &&
-           (width == 4 || width == 8 ? a.refusal != TJ_BAD_REQUEST : a.refusal != 0);
+           (known ? a.refusal != TJ_BAD_REQUEST : a.refusal && a.refusal != TJ_SIZE_TOO_LARGE);
 }
 
 static tj_answer (*const bounds[])(const uint64_t *, size_t, uint64_t *, uint64_t *) = {

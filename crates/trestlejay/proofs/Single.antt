@@ -156,12 +156,8 @@ tj-can-autoderef-into-single κs a x y s t p q = p ∙ sym q
 pub tj-can-subautoderef-into-single : SingleOfPair tj-can-subautoderef-into.Post
 tj-can-subautoderef-into-single κs a x y s t p q = p ∙ sym q
 
-abbrev SingleWithSize : Out 2 with-size.ps with-size.r → Type 0
-SingleWithSize Q =
-    (κs : Lfts 2) (a : Dens κs with-size.ps) (x y : resT with-size.r κs .Denot) (s t : AtExit (endedOf 2 with-size.ps with-size.r) κs) →
-    Q κs a x s → Q κs a y t → (x ≡ y) × (now (s .1 .0) ≡ now (t .1 .0))
-
-pub tj-known-size-in-bytes-as-word-member-single : SingleWithSize tj-known-size-in-bytes-as-word-member.Post
+pub tj-known-size-in-bytes-as-word-member-single : (κs : Lfts 2) (a : Dens κs with-size.ps) (x y : resT with-size.r κs .Denot) (s t : AtExit (endedOf 2 with-size.ps with-size.r) κs) →
+    tj-known-size-in-bytes-as-word-member.Post κs a x s → tj-known-size-in-bytes-as-word-member.Post κs a y t → (x ≡ y) × (now (s .1 .0) ≡ now (t .1 .0))
 tj-known-size-in-bytes-as-word-member-single κs a x y s t p q = (p .0 ∙ sym (q .0), p .1 ∙ sym (q .1))
 
 pub tj-stored-size-single : (κs : Lfts 2) (a : Dens κs with-width.ps) (x y : resT with-width.r κs .Denot) (s t : AtExit (endedOf 2 with-width.ps with-width.r) κs) →

@@ -18,7 +18,7 @@ isGiven (given v) = true
 isGiven nothing = false
 isGiven (refused n p) = false
 
--- Words that pass the checks: how many layers they are.
+-- What passes checks gives a number: of a type's words, how many layers they are.
 abbrev pub ofChecked : Checked → Answer ℕ
 ofChecked (checked.Good n) = given n
 ofChecked (checked.Refused n p) = refused n p

@@ -1,7 +1,7 @@
 ghost use mathlib.Core.Path.{_≡_};
 ghost use Rattle.type_layers.specs.Answer.{ofVerdict, truth};
 
-// What the checks of a type's words say: how many layers they are, or a refusal.
+// What checks say: a number of what passes them, such as how many layers a type has, or a refusal.
 pub enum Checked {
     Good(u64),
     Refused { number: u64, place: u64 },

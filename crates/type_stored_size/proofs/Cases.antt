@@ -26,7 +26,7 @@ pub largest : storedSizeAnswer 8 (words kind.array 0 (2 ^ 64 - 1) ++ words kind.
 unfolding storedSizeAnswer storedSize knownOf checkOf badWord badLayer misplaced layers
 largest = refl
 
--- Array 3 of Slice of Int32, a table of slices: six words of four bytes, or of eight
+-- Array 3 of Slice of Int32: six widths, of four bytes or of eight
 pub slices-on-4 : storedSizeAnswer 4 (words kind.array 0 3 ++ (words kind.slice 0 0 ++ words kind.int32 0 0)) ≡ given 24
 unfolding storedSizeAnswer storedSize knownOf checkOf badWord badLayer misplaced layers
 slices-on-4 = refl

@@ -1,4 +1,4 @@
--- What follows from the definition of the stored size, for every width.
+-- What follows from the definition of the stored size.
 -- Assumes nothing.
 use mathlib.Core.Path.{_≡_, refl, sym, ap, _∙_}
 use mathlib.Core.Bool.{Bool, true, false, not, _&&_, _||_, false≢true}
@@ -12,7 +12,7 @@ use Rattle.type_checks.specs.Check.{checkOf}
 use Rattle.type_checks.proofs.Refusals.{passed}
 use Rattle.type_stored_size.specs.StoredSize.{widthAnswer, hasOneWidth, hasTwoWidths, storedSize, storedSizeAnswer}
 use Rattle.type_stored_size.specs.Earlier.{earlierStoredSize, earlierStoredSizeAnswer}
-use Rattle.type_stored_size.proofs.Widths.{below, none, measured, other-width}
+use Rattle.type_stored_size.proofs.Widths.{not-above, none-stays, size-told, other-width}
 
 -- "Width 8 gives every earlier answer.": the size of every type,
 pub size-as-it-was : (a : List Layer) → storedSize 8 a ≡ earlierStoredSize a
@@ -55,18 +55,18 @@ same-on-both v w ws g h e =
 
 -- Where a type has a size with wide pointers, it has one with narrow ones;
 pub has-one-too : (v w : ℕ) → v ≤ w → isGiven (widthAnswer v) ≡ true → (ws : List ℕ) (n : ℕ) → storedSizeAnswer w ws ≡ given n →
-    (m : ℕ) × ((storedSizeAnswer v ws ≡ given m) × (m ≤ n))
+    (m : ℕ) × (storedSizeAnswer v ws ≡ given m)
 has-one-too v w l g ws n e =
-    let s = below v w l (layers ws) n (measured ws (given n) refl w e) in
-    (s .0, (other-width ws (given n) refl v w g e ∙ s .1 .0, s .1 .1))
+    let s = not-above v w l (layers ws) n (size-told ws (given n) refl w e) in
+    (s .0, other-width ws (given n) refl v w g e ∙ s .1 .0)
 
 -- and where both have one, that with narrow pointers never exceeds the other.
 pub never-exceeds : (v w : ℕ) → v ≤ w → (ws : List ℕ) (m n : ℕ) → storedSizeAnswer v ws ≡ given m → storedSizeAnswer w ws ≡ given n → m ≤ n
 never-exceeds v w l ws m n d e =
-    let s = below v w l (layers ws) n (measured ws (given n) refl w e) in
-    let same : m ≡ s .0 = given-is m (s .0) (sym (measured ws (given m) refl v d) ∙ s .1 .0) in
+    let s = not-above v w l (layers ws) n (size-told ws (given n) refl w e) in
+    let same : m ≡ s .0 = given-is m (s .0) (sym (size-told ws (given m) refl v d) ∙ s .1 .0) in
     rw same (s .1 .1)
 
 -- Where a type has no size with one width, it has none with the other.
 pub none-on-both : (v w : ℕ) → isGiven (widthAnswer w) ≡ true → (ws : List ℕ) → storedSizeAnswer v ws ≡ nothing → storedSizeAnswer w ws ≡ nothing
-none-on-both v w g ws e = other-width ws nothing refl w v g e ∙ none v w (layers ws) (measured ws nothing refl v e)
+none-on-both v w g ws e = other-width ws nothing refl w v g e ∙ none-stays v w (layers ws) (size-told ws nothing refl v e)

@@ -18,7 +18,7 @@ use Rattle.type_checks.proofs.Refusals.{passed}
 use Rattle.type_size_and_depth.specs.Known.{knownOf}
 use Rattle.type_stored_size.specs.StoredSize.{widthAnswer, hasOneWidth, hasTwoWidths, product, times, storedSize, storedSizeAnswer}
 
--- what holds between the answers of two widths, layer by layer
+-- a relation between the answers for two widths holds of every type, if it holds of each layer
 module _ (R : Answer ℕ → Answer ℕ → Type 0) (same : (x : Answer ℕ) → R x x) (array : (n : ℕ) (x y : Answer ℕ) → R x y → R (times n x) (times n y))
     (v w : ℕ) (one : R (given v) (given w)) (two : R (given (2 * v)) (given (2 * w))) where
   between : (a : List Layer) → R (storedSize v a) (storedSize w a)
@@ -57,8 +57,8 @@ below-array n x (given j) b k e =
     let less : n * l .0 ≤ n * j = mul-le-mul-left {m = l .0} {n = j} n (l .1 .1) in
     (n * l .0, (rw (l .1 .0, le-ltb (2 ^ 64 - 1) (n * l .0) (omega (arith, less, p .1))), omega (arith, less, p .0)))
 
-pub below : (v w : ℕ) → v ≤ w → (a : List Layer) → Below (storedSize v a) (storedSize w a)
-below v w h = between Below (λ x n e. (n, (e, omega arith))) below-array v w (given-below v w h) (given-below (2 * v) (2 * w) (omega (arith, h)))
+pub not-above : (v w : ℕ) → v ≤ w → (a : List Layer) → Below (storedSize v a) (storedSize w a)
+not-above v w h = between Below (λ x n e. (n, (e, omega arith))) below-array v w (given-below v w h) (given-below (2 * v) (2 * w) (omega (arith, h)))
   where
     given-below : (i j : ℕ) → i ≤ j → Below (given i) (given j)
     given-below i j l n e = (i, (refl, omega (arith, l, given-is j n e)))
@@ -76,15 +76,15 @@ none-array n (given m) y b e = by-test (ltb (2 ^ 64 - 1) (n * m)) e
     by-test true q = cc
     by-test false q = absurd (nothing-given (n * m) (sym q))
 
-pub none : (v w : ℕ) (a : List Layer) → None (storedSize v a) (storedSize w a)
-none v w = between None (λ x e. e) none-array v w (λ e. absurd (nothing-given v (sym e))) (λ e. absurd (nothing-given (2 * v) (sym e)))
+pub none-stays : (v w : ℕ) (a : List Layer) → None (storedSize v a) (storedSize w a)
+none-stays v w = between None (λ x e. e) none-array v w (λ e. absurd (nothing-given v (sym e))) (λ e. absurd (nothing-given (2 * v) (sym e)))
 
 abbrev isRefused : {A : Type 0} → Answer A → Bool
 isRefused (given v) = false
 isRefused nothing = false
 isRefused (refused n p) = true
 
--- an answer that is no refusal comes from behind the checks, and what else stands there is then answered
+-- where `next x c` is no refusal, it is c; and with d in the place of c it is d
 module _ {A B : Type 0} (e : Answer B) (h : isRefused e ≡ false) (c : Answer B) where
   behind : (x : Answer A) → next x c ≡ e → c ≡ e
   behind (given n) q = q
@@ -97,9 +97,9 @@ module _ {A B : Type 0} (e : Answer B) (h : isRefused e ≡ false) (c : Answer B
   instead d (refused n p) q = absurd (true≢false (ap isRefused q ∙ h))
 
 module _ (ws : List ℕ) (e : Answer ℕ) (h : isRefused e ≡ false) where
-  pub measured : (w : ℕ) → storedSizeAnswer w ws ≡ e → storedSize w (layers ws) ≡ e
+  pub size-told : (w : ℕ) → storedSizeAnswer w ws ≡ e → storedSize w (layers ws) ≡ e
   unfolding storedSizeAnswer
-  measured w q = behind e h (storedSize w (layers ws)) (widthAnswer w) (behind e h (next (widthAnswer w) (storedSize w (layers ws))) (checkOf ws) q)
+  size-told w q = behind e h (storedSize w (layers ws)) (widthAnswer w) (behind e h (next (widthAnswer w) (storedSize w (layers ws))) (checkOf ws) q)
 
   pub other-width : (v w : ℕ) → isGiven (widthAnswer v) ≡ true → storedSizeAnswer w ws ≡ e → storedSizeAnswer v ws ≡ storedSize v (layers ws)
   unfolding storedSizeAnswer

@@ -1,4 +1,5 @@
--- No rule any more: the stored size as it was before request g, when a pointer had eight bytes.
+-- No rule any more: the stored size as it was before request g, when a pointer had eight bytes. The checks, known sizes
+-- and the product of an Array did not change.
 use mathlib.Core.Bool.{cond, _||_}
 use mathlib.Core.List.{List, [], _∷_}
 use Prim.Native.Nat.{ℕ}

@@ -45,6 +45,7 @@ fn sort(question: usize, given: &Answer, beside: [u64; 2]) -> Sort {
     match given.refusal {
         0 => (question, 0, beside),
         1..=3 => (question, 1, [0; 2]),
+        other if question == STORED => (question, other, beside),
         other => (question, other, [0; 2]),
     }
 }
@@ -85,7 +86,7 @@ pub fn answers(count: usize, seed: u64) -> String {
     list
 }
 
-/// The widths of a stored size take turns too, and each is a sort of its own.
+/// Of a stored size the inputs have the widths in turn, and what is answered with each is a sort of its own.
 fn about_types(question: usize, turn: usize, random: &mut Random, seen: &mut Seen) -> String {
     let tries = (0..TRIES).map(|i| {
         let (a, mut b) = input(question, random);

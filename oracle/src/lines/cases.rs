@@ -8,7 +8,7 @@ const HEADING: &str = "words: layers wellformed void integral signed bitfield sl
     | element pointee viewee dereferenced \
     | known depth min max stored_with_4 stored_with_8\n";
 
-const WIDTHS: &str =
+const STORED_WITH: &str =
     "stored with: int64 usize pointer view slice slice_pointer three_slices void too_large no_kind\n";
 
 const BAD_WORDS: &str = "kind at layer, of sixteen: | the names 0 1 4294967295 4294967296, \
@@ -31,7 +31,7 @@ const POINTER: u64 = 23;
 pub fn cases() -> String {
     let mut lines = String::from(HEADING);
     one_type(&mut lines);
-    lines.push_str(WIDTHS);
+    lines.push_str(STORED_WITH);
     widths(&mut lines);
     lines.push_str(BAD_WORDS);
     bad_words(&mut lines);
