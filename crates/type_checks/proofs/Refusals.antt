@@ -38,6 +38,23 @@ passed (given n) c e = refl
 passed nothing c e = absurd (false≢true e)
 passed (refused n p) c e = absurd (false≢true e)
 
+abbrev pub isRefused : {A : Type 0} → Answer A → Bool
+isRefused (given v) = false
+isRefused nothing = false
+isRefused (refused n p) = true
+
+-- where `next x c` is no refusal, it is c; and with d in the place of c it is d
+module _ {A B : Type 0} (e : Answer B) (h : isRefused e ≡ false) (c : Answer B) where
+  pub behind : (x : Answer A) → next x c ≡ e → c ≡ e
+  behind (given n) q = q
+  behind nothing q = q
+  behind (refused n p) q = absurd (true≢false (ap isRefused q ∙ h))
+
+  pub instead : (d : Answer B) (x : Answer A) → next x c ≡ e → next x d ≡ d
+  instead d (given n) q = refl
+  instead d nothing q = refl
+  instead d (refused n p) q = absurd (true≢false (ap isRefused q ∙ h))
+
 -- what follows the checks of two types
 pub next-next : {A B C : Type 0} (x : Answer A) (y : Answer B) (c : Answer C) → next (next x y) c ≡ next x (next y c)
 next-next (given v) y c = refl

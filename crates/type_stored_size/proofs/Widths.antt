@@ -1,7 +1,7 @@
 -- How the answers for two widths stand to each other.
 -- Assumes nothing.
-use mathlib.Core.Path.{_≡_, refl, sym, ap, _∙_}
-use mathlib.Core.Bool.{Bool, true, false, cond, true≢false}
+use mathlib.Core.Path.{_≡_, refl, sym, _∙_}
+use mathlib.Core.Bool.{Bool, true, false, cond}
 use mathlib.Core.List.{List, [], _∷_}
 use Prim.Native.Nat.{ℕ, _*_, _-_, _^_, _≤_}
 use native.Mathlib.Omega.{arith}
@@ -14,7 +14,7 @@ use Rattle.type_layers.specs.Layers.{Layer, layers}
 use Rattle.type_layers.specs.Answer.{Answer, given, nothing, refused, isGiven, next}
 use Rattle.type_layers.proofs.Given.{not-given, nothing-given, given-is}
 use Rattle.type_checks.specs.Check.{checkOf}
-use Rattle.type_checks.proofs.Refusals.{passed}
+use Rattle.type_checks.proofs.Refusals.{isRefused, behind, instead, passed}
 use Rattle.type_size_and_depth.specs.Known.{knownOf}
 use Rattle.type_stored_size.specs.StoredSize.{widthAnswer, hasOneWidth, hasTwoWidths, product, times, storedSize, storedSizeAnswer}
 
@@ -79,23 +79,7 @@ none-array n (given m) y b e = by-test (ltb (2 ^ 64 - 1) (n * m)) e
 pub none-stays : (v w : ℕ) (a : List Layer) → None (storedSize v a) (storedSize w a)
 none-stays v w = between None (λ x e. e) none-array v w (λ e. absurd (nothing-given v (sym e))) (λ e. absurd (nothing-given (2 * v) (sym e)))
 
-abbrev isRefused : {A : Type 0} → Answer A → Bool
-isRefused (given v) = false
-isRefused nothing = false
-isRefused (refused n p) = true
-
--- where `next x c` is no refusal, it is c; and with d in the place of c it is d
-module _ {A B : Type 0} (e : Answer B) (h : isRefused e ≡ false) (c : Answer B) where
-  behind : (x : Answer A) → next x c ≡ e → c ≡ e
-  behind (given n) q = q
-  behind nothing q = q
-  behind (refused n p) q = absurd (true≢false (ap isRefused q ∙ h))
-
-  instead : (d : Answer B) (x : Answer A) → next x c ≡ e → next x d ≡ d
-  instead d (given n) q = refl
-  instead d nothing q = refl
-  instead d (refused n p) q = absurd (true≢false (ap isRefused q ∙ h))
-
+-- an answer that is no refusal, by what stands behind the checks
 module _ (ws : List ℕ) (e : Answer ℕ) (h : isRefused e ≡ false) where
   pub size-told : (w : ℕ) → storedSizeAnswer w ws ≡ e → storedSize w (layers ws) ≡ e
   unfolding storedSizeAnswer

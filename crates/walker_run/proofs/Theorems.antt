@@ -8,9 +8,10 @@ use native.Mathlib.Omega.{arith}
 use lib.ListN.{length, take, getD}
 use Rattle.type_numbers.specs.Kind as kind
 use Rattle.type_layers.specs.Layers.{Layer, layer, layers}
-use Rattle.type_layers.specs.Answer.{Answer, given, nothing, refused, next, isGiven}
+use Rattle.type_layers.specs.Answer.{Answer, given, nothing, refused, isGiven}
 use Rattle.type_layers.proofs.Given.{given-is}
 use Rattle.type_checks.specs.Check.{checkOf}
+use Rattle.type_checks.proofs.Refusals.{behind}
 use Rattle.symbol_order.specs.Order.{inOrder}
 use Rattle.symbol_columns.specs.declared.symbol.Symbol.{Symbol}
 use Rattle.plan_steps.specs.Steps.{Step, step, steps, stepsAnswer}
@@ -90,14 +91,9 @@ module _ (known ws store : List ℕ) (address : Bool) (table : List Symbol) (u :
       by-test true e = by-walk e
       by-test false e = absurd (false≢true (ap isGiven e))
 
-  after : (c : Answer ℕ) (w : Answer (List Layer)) → next c w ≡ given u → w ≡ given u
-  after (given i) w e = e
-  after nothing w e = e
-  after (refused n p) w e = absurd (false≢true (ap isGiven e))
-
   pub walk-arrives : walkTo known ws address table store ≡ given u → arrives stored (steps ws) address (layers known) ≡ at u
   unfolding walkTo
-  walk-arrives e = by-order (after (stepsAnswer 128 ws) _ (after (checkOf known) _ e))
+  walk-arrives e = by-order (behind (given u) refl _ (stepsAnswer 128 ws) (behind (given u) refl _ (checkOf known) e))
 
   -- and where it arrives is what is given, of a type, steps and a table that pass their checks
   to-address : (w : Answer (List Layer)) → then stored (whereOf w) (λ v. at (cond address (layer kind.pointer 0 0 ∷ v) v)) ≡ at u → andAddress address w ≡ given u
