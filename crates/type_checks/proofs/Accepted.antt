@@ -4,15 +4,17 @@ use mathlib.Core.Path.{_≡_, refl, sym, ap, _∙_}
 use mathlib.Core.Bool.{Bool, true, false, cond, not, _&&_, _||_, false≢true}
 use mathlib.Core.List.{List, [], _∷_}
 use Prim.Native.Nat.{ℕ, _+_, _*_, _/_, _%_, _<_}
+use native.Mathlib.Nat.{not-suc-le-zero}
 use native.Mathlib.Omega.{arith}
 use lib.Dec.{eqb, ltb}
 use lib.ListN.{length}
-use borrow.Author.Tests.{ltb-false, eqb-true, eqb-false}
+use borrow.Author.Tests.{ltb-true, ltb-false, eqb-true, eqb-false}
+use Rattle.type_numbers.specs.Kind as kind
 use Rattle.type_layers.specs.Layers.{Layer, layers, outer, holdsInner}
 use Rattle.type_layers.specs.AsCoded.{Whole}
 use Rattle.type_layers.specs.Answer.{Answer, given, refused, isGiven}
-use Rattle.type_checks.specs.Check.{Place, at, nowhere, badCount, goodLayer, badWord, wordIn, badLayer, misplaced, unless, checkOf}
-use Rattle.type_layers.proofs.Decide.{neither}
+use Rattle.type_checks.specs.Check.{Place, at, nowhere, badCount, goodKind, goodName, goodNumber, goodLayer, badWord, wordIn, badLayer, misplaced, unless, checkOf}
+use Rattle.type_layers.proofs.Decide.{both, neither}
 use Rattle.type_layers.proofs.Given.{not-given}
 use Rattle.type_layers.proofs.Spelling.{spelled-length, spelled-layers}
 use Rattle.type_checks.proofs.Theorems.{at-nowhere, nowhere-good}
@@ -79,6 +81,17 @@ module _ (ws : List ℕ) (n : ℕ) (e : checkOf ws ≡ given n) where
       more : (a : List Layer) → misplaced 0 a ≡ nowhere → holdsInner (outer a) ≡ true → 1 < length a
       more [] q f = absurd (false≢true f)
       more (x ∷ a) q f = omega (arith, placed-inside 0 x a q f .0)
+
+  -- the outer kind is one of the 25
+  pub accepted-kind : outer (layers ws) < kind.none
+  unfolding outer goodLayers goodLayer
+  accepted-kind = first (layers ws) accepted-good (accepted-count .1)
+    where
+      first : (a : List Layer) → goodLayers a ≡ true → 0 < length a → outer a < kind.none
+      first [] g h = absurd (not-suc-le-zero h)
+      first (x ∷ a) g h =
+          let l = both (goodKind x && goodName x) (goodNumber x) (both (goodLayer x) (goodLayers a) g .0) .0 in
+          ltb-true (x .kind) kind.none (both (goodKind x) (goodName x) l .0)
 
 pub good-whole : (ws : List ℕ) → isGiven (checkOf ws) ≡ true → Whole ws
 good-whole ws e = accepted-whole ws (length ws / 3) (sym (counted-by ws true (sym e) refl))

@@ -9,8 +9,8 @@ use Rattle.type_layers.specs.Answer.{Answer, refused, next, truth, isGiven}
 use Rattle.type_checks.specs.Check.{checkOf}
 use Rattle.type_size_and_depth.specs.Known.{knownSize}
 use Rattle.type_wellformed.specs.WellFormed.{wellFormed}
-use Rattle.type_roles.specs.declared.roles.Role.{Role}
-use Rattle.type_roles.specs.declared.roles.Role.the-variants as role
+use Rattle.type_roles.specs.declared.role.Role.{Role}
+use Rattle.type_roles.specs.declared.role.Role.the-variants as role
 
 -- The kinds that each of them lists; `can_be_word_member` asks `can_be_struct_member`, which lists those of `can_be_sized`.
 abbrev pub isUnsized : ℕ → Bool

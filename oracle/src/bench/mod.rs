@@ -7,6 +7,7 @@ mod measure;
 mod pairs;
 mod plans;
 mod records;
+mod roles;
 mod types;
 mod updates;
 
@@ -60,6 +61,8 @@ fn rows(show: &mut dyn FnMut(Row)) {
     let random = &mut Random::new(1);
     pairs::rows(random, show);
     forms::rows(random, show);
+    // From a seed of their own, so that the questions of the rows below stay what they were.
+    roles::rows(&mut Random::new(1), show);
     updates::rows(random, show);
     records::rows(random, show);
     fixing::rows(random, show);

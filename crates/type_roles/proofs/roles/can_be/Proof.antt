@@ -1,7 +1,7 @@
 use borrow.Author.Needs.{needs}
 use Rattle.type_checks.proofs.Refusals.{refuses, accepts, answered}
 use Rattle.type_roles.specs.Roles.{roleAnswer}
-use Rattle.type_roles.proofs.Told.{role-told}
+use Rattle.type_roles.proofs.Told.{has-entry, role-told}
 use Rattle.type_roles.proofs.roles.can_be.Statement.{statement}
 use Rattle.type_roles.proofs.roles.can_be.Tie as tie
 
@@ -14,8 +14,7 @@ can-be-spec =
     (λ c. search needs)
     (λ c. search needs)
     (λ c κs. search needs)
-    (λ c κs. search needs)
-    (λ c κs. search needs)
+    (λ c κs. search has-entry)
     (λ c κs. search needs)
     (λ c κs. search needs)
     (λ c κs. search needs)

@@ -1,0 +1,48 @@
+use crate::role::Role;
+use type_wellformed::is_wellformed;
+ghost use mathlib.Core.Path.{_≡_};
+ghost use Prim.Native.Nat.{_<_};
+ghost use Rattle.type_layers.specs.Layers.{layers};
+ghost use Rattle.type_wellformed.specs.WellFormed.{wellFormed};
+ghost use Rattle.type_roles.specs.Grid as grid;
+
+// What an entry says: the role is refused, allowed, or allowed when the type is well formed.
+const R: u8 = 0;
+
+const A: u8 = 1;
+
+const W: u8 = 2;
+
+// The roles by the outer kinds.
+#[rattlefmt::skip]
+const ROLES: [[u8; 25]; 7] = [
+//  Void I8 I16 I32 I64 I128 U8 U16 U32 U64 U128 Usize Char8 Bool Array Named Slice SlPtr Endl Alike Struct Word Unres Ptr View
+    [R,  A, A,  A,  A,  A,   A, A,  A,  A,  A,   A,    A,    A,   A,    A,    R,    R,    R,   R,    A,     A,   A,    A,  R], // can_be_sized
+    [R,  W, W,  W,  W,  W,   W, W,  W,  W,  W,   W,    W,    W,   W,    W,    R,    R,    R,   R,    W,     W,   W,    W,  R], // can_be_struct_member
+    [R,  W, W,  W,  W,  W,   W, W,  W,  W,  W,   W,    W,    W,   W,    W,    R,    R,    R,   R,    W,     W,   W,    W,  R], // can_be_word_member
+    [R,  W, W,  W,  W,  W,   W, W,  W,  W,  W,   W,    W,    W,   W,    W,    R,    R,    R,   R,    W,     W,   W,    W,  W], // can_be_constant
+    [R,  W, W,  W,  W,  W,   W, W,  W,  W,  W,   W,    W,    W,   W,    W,    W,    R,    R,   R,    W,     W,   W,    W,  R], // can_be_variable
+    [R,  W, W,  W,  W,  W,   W, W,  W,  W,  W,   W,    W,    W,   R,    R,    W,    W,    R,   R,    R,     W,   W,    W,  W], // can_be_parameter
+    [W,  W, W,  W,  W,  W,   W, W,  W,  W,  W,   W,    W,    W,   R,    R,    R,    R,    R,   R,    R,     W,   R,    W,  R], // can_be_returned
+];
+
+// The entry of a role and a kind.
+pub fn entry(role: Role, k: u64) -> u8
+    requires { ⌜ k < 25 ⌝ }
+    ensures { λ r. ⌜ r ≡ grid.entryOf role k ⌝ }
+{
+    ROLES[role.row()][k as usize]
+}
+
+// What an entry says of a type.
+pub fn says(entry: u8, a: &[u64]) -> bool
+    ensures { λ r. ⌜ r ≡ grid.says entry (wellFormed (layers (now (a .entry)))) ⌝ }
+{
+    if entry == R {
+        return false;
+    }
+    if entry == A {
+        return true;
+    }
+    is_wellformed(a)
+}
