@@ -1,8 +1,10 @@
 -- The roles as a grid, so request i: "Hold them as seven rows of twenty-five entries, an array of arrays, saying refused,
 -- allowed, or allowed when well formed".
 use mathlib.Core.Bool.{Bool, true, false, cond}
-use Prim.Native.Nat.{ℕ}
+use mathlib.Core.List.{List, [], _∷_}
+use Prim.Native.Nat.{ℕ, zero, suc}
 use lib.Dec.{eqb}
+use Rattle.type_numbers.specs.Kind as kind
 use Rattle.type_roles.specs.Roles.{refuses}
 use Rattle.type_roles.specs.declared.role.Role.{Role}
 use Rattle.type_roles.specs.declared.role.Role.the-variants as role
@@ -20,16 +22,6 @@ allowedWhenWellFormed = 2
 abbrev pub says : ℕ → Bool → Bool
 says e formed = cond (eqb e refused) false (cond (eqb e allowed) true formed)
 
--- The rows, from 0, in the order of the seven functions.
-abbrev pub rowOf : Role → ℕ
-rowOf role.Sized = 0
-rowOf role.StructMember = 1
-rowOf role.WordMember = 2
-rowOf role.Constant = 3
-rowOf role.Variable = 4
-rowOf role.Parameter = 5
-rowOf role.Returned = 6
-
 -- What stands in a role's row where its kind is not refused: "all but sized also need the type well formed".
 abbrev pub unrefused : Role → ℕ
 unrefused role.Sized = allowed
@@ -43,6 +35,25 @@ unrefused role.Returned = allowedWhenWellFormed
 -- What stands in a role's row under a kind.
 abbrev pub entryOf : Role → ℕ → ℕ
 entryOf r k = cond (refuses r k) refused (unrefused r)
+
+-- n entries of a row, from kind k on.
+abbrev pub entries : Role → ℕ → ℕ → List ℕ
+entries r k zero = []
+entries r k (suc n) = entryOf r k ∷ entries r (suc k) n
+
+abbrev pub rowOf : Role → List ℕ
+rowOf r = entries r 0 kind.none
+
+abbrev pub grid : List (List ℕ)
+grid =
+    rowOf role.Sized
+    ∷ rowOf role.StructMember
+    ∷ rowOf role.WordMember
+    ∷ rowOf role.Constant
+    ∷ rowOf role.Variable
+    ∷ rowOf role.Parameter
+    ∷ rowOf role.Returned
+    ∷ []
 
 -- "word member's extra size test stays apart"
 abbrev pub sizeTest : Role → Bool → Bool

@@ -1,7 +1,9 @@
 use crate::role::Role;
 use type_wellformed::is_wellformed;
 ghost use mathlib.Core.Path.{_≡_};
+ghost use lib.ListN.{getD};
 ghost use Prim.Native.Nat.{_<_};
+ghost use Rattle.type_numbers.specs.Kind as kind;
 ghost use Rattle.type_layers.specs.Layers.{layers};
 ghost use Rattle.type_wellformed.specs.WellFormed.{wellFormed};
 ghost use Rattle.type_roles.specs.Grid as grid;
@@ -26,12 +28,36 @@ const ROLES: [[u8; 25]; 7] = [
     [W,  W, W,  W,  W,  W,   W, W,  W,  W,  W,   W,    W,    W,   R,    R,    R,    R,    R,   R,    R,     W,   R,    W,  R], // can_be_returned
 ];
 
+// All of it, held to the rules by one test.
+fn rows() -> [[u8; 25]; 7]
+    ensures { λ r. ⌜ r ≡ grid.grid ⌝ }
+{
+    ROLES
+}
+
+// The entry of a row under a kind.
+fn under(k: u64, row: [u8; 25]) -> u8
+    requires { ⌜ k < kind.none ⌝ }
+    ensures { λ r. ⌜ r ≡ getD row k 0 ⌝ }
+{
+    row[k as usize]
+}
+
 // The entry of a role and a kind.
 pub fn entry(role: Role, k: u64) -> u8
-    requires { ⌜ k < 25 ⌝ }
+    requires { ⌜ k < kind.none ⌝ }
     ensures { λ r. ⌜ r ≡ grid.entryOf role k ⌝ }
 {
-    ROLES[role.row()][k as usize]
+    let rows = rows();
+    match role {
+        Role::Sized => under(k, rows[0]),
+        Role::StructMember => under(k, rows[1]),
+        Role::WordMember => under(k, rows[2]),
+        Role::Constant => under(k, rows[3]),
+        Role::Variable => under(k, rows[4]),
+        Role::Parameter => under(k, rows[5]),
+        Role::Returned => under(k, rows[6]),
+    }
 }
 
 // What an entry says of a type.

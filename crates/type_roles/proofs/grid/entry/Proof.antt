@@ -1,5 +1,5 @@
 use borrow.Author.Needs.{needs}
-use Rattle.type_roles.proofs.Entries.{below-7, looked-up}
+use Rattle.type_roles.proofs.Entries.{looked-up-by, row-at}
 use Rattle.type_roles.proofs.grid.entry.Statement.{statement}
 use Rattle.type_roles.proofs.grid.entry.Tie as tie
 
@@ -8,7 +8,31 @@ entry-spec =
     tie.close
     (tie.spec
     (λ c κs. search needs)
-    (λ c. search (below-7, needs))
-    (λ c. search below-7)
     (λ c. search needs)
-    (λ c. search (looked-up, needs)))
+    (λ c. search needs)
+    (λ c κs. search needs)
+    (λ c. search needs)
+    (λ c. search needs)
+    (λ c κs. search needs)
+    (λ c. search needs)
+    (λ c. search needs)
+    (λ c κs. search needs)
+    (λ c. search needs)
+    (λ c. search needs)
+    (λ c κs. search needs)
+    (λ c. search needs)
+    (λ c. search needs)
+    (λ c κs. search needs)
+    (λ c. search needs)
+    (λ c. search needs)
+    (λ c κs. search needs)
+    (λ c. search needs)
+    (λ c. search needs)
+    (λ c κs. search needs)
+    (λ c. search (looked-up-by, row-at))
+    (λ c. search (looked-up-by, row-at))
+    (λ c. search (looked-up-by, row-at))
+    (λ c. search (looked-up-by, row-at))
+    (λ c. search (looked-up-by, row-at))
+    (λ c. search (looked-up-by, row-at))
+    (λ c. search (looked-up-by, row-at)))
