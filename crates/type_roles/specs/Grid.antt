@@ -1,5 +1,4 @@
--- The roles as a grid, so request i: "Hold them as seven rows of twenty-five entries, an array of arrays, saying refused,
--- allowed, or allowed when well formed".
+-- "Roles as a table."
 use mathlib.Core.Bool.{Bool, true, false, cond}
 use mathlib.Core.List.{List, [], _∷_}
 use Prim.Native.Nat.{ℕ, zero, suc}
@@ -9,6 +8,7 @@ use Rattle.type_roles.specs.Roles.{refuses}
 use Rattle.type_roles.specs.declared.role.Role.{Role}
 use Rattle.type_roles.specs.declared.role.Role.the-variants as role
 
+-- What an entry can be: "saying refused, allowed, or allowed when well formed".
 abbrev pub refused : ℕ
 refused = 0
 
@@ -22,7 +22,7 @@ allowedWhenWellFormed = 2
 abbrev pub says : ℕ → Bool → Bool
 says e formed = cond (eqb e refused) false (cond (eqb e allowed) true formed)
 
--- What stands in a role's row where its kind is not refused: "all but sized also need the type well formed".
+-- What stands in a role's row under the kinds that it does not refuse: "all but sized also need the type well formed".
 abbrev pub unrefused : Role → ℕ
 unrefused role.Sized = allowed
 unrefused role.StructMember = allowedWhenWellFormed
@@ -36,7 +36,7 @@ unrefused role.Returned = allowedWhenWellFormed
 abbrev pub entryOf : Role → ℕ → ℕ
 entryOf r k = cond (refuses r k) refused (unrefused r)
 
--- n entries of a row, from kind k on.
+-- "Hold them as seven rows of twenty-five entries, an array of arrays": n entries of a row, from kind k on; a row; the grid.
 abbrev pub entries : Role → ℕ → ℕ → List ℕ
 entries r k zero = []
 entries r k (suc n) = entryOf r k ∷ entries r (suc k) n

@@ -1,5 +1,5 @@
 use borrow.Author.Needs.{needs}
-use Rattle.type_roles.proofs.Entries.{looked-up-by, row-at}
+use Rattle.type_roles.proofs.Entries.{looked-up}
 use Rattle.type_roles.proofs.grid.entry.Statement.{statement}
 use Rattle.type_roles.proofs.grid.entry.Tie as tie
 
@@ -29,10 +29,10 @@ entry-spec =
     (λ c. search needs)
     (λ c. search needs)
     (λ c κs. search needs)
-    (λ c. search (looked-up-by, row-at))
-    (λ c. search (looked-up-by, row-at))
-    (λ c. search (looked-up-by, row-at))
-    (λ c. search (looked-up-by, row-at))
-    (λ c. search (looked-up-by, row-at))
-    (λ c. search (looked-up-by, row-at))
-    (λ c. search (looked-up-by, row-at)))
+    (λ c. search looked-up)
+    (λ c. search looked-up)
+    (λ c. search looked-up)
+    (λ c. search looked-up)
+    (λ c. search looked-up)
+    (λ c. search looked-up)
+    (λ c. search looked-up))
