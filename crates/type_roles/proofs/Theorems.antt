@@ -28,11 +28,9 @@ by-role role.Variable w n = and-true w
 by-role role.Parameter w n = and-true w
 by-role role.Returned w n = and-true w
 
--- What an entry and the size test answer of any type is the earlier answer.
-abbrev pub AsBefore : Role → ℕ → ℕ → Type 0
-AsBefore p k e = (formed known : Bool) → (says e formed && sizeTest p known) ≡ (not (refuses p k) && needs p formed known)
-
-pub as-before : (p : Role) (k : ℕ) → AsBefore p k (entryOf p k)
+-- what an entry and the size test answer, of any type, is the earlier answer
+pub as-before : (p : Role) (k : ℕ) (formed known : Bool) →
+    (says (entryOf p k) formed && sizeTest p known) ≡ (not (refuses p k) && needs p formed known)
 as-before p k w n = by-refused (refuses p k)
   where
     by-refused : (b : Bool) → (says (cond b refused (unrefused p)) w && sizeTest p n) ≡ (not b && needs p w n)
@@ -62,7 +60,8 @@ told-apart e g h i =
     h
 
 -- no other entry gives the earlier answers
-pub only-entry : (p : Role) (k e : ℕ) → e ≤ allowedWhenWellFormed → AsBefore p k e → e ≡ entryOf p k
+pub only-entry : (p : Role) (k e : ℕ) → e ≤ allowedWhenWellFormed →
+    ((formed known : Bool) → (says e formed && sizeTest p known) ≡ (not (refuses p k) && needs p formed known)) → e ≡ entryOf p k
 only-entry p k e h f =
     told-apart e (entryOf p k) h (bounded (refuses p k)) (λ w. sym (sized e w) ∙ (f w true ∙ (sym (as-before p k w true) ∙ sized (entryOf p k) w)))
   where
