@@ -1,5 +1,4 @@
 -- What the proofs of several functions use.
-pub mod Entries
 pub mod Theorems
 pub mod Told
 pub mod Single

@@ -5,7 +5,7 @@ use Prim.Native.Nat.{ℕ}
 use lib.Dec.{eqb}
 use Rattle.type_numbers.specs.Kind as kind
 use Rattle.type_layers.specs.Layers.{Layer, layers, outer}
-use Rattle.type_layers.specs.Answer.{Answer, refused, next, truth, isGiven}
+use Rattle.type_layers.specs.Answer.{Answer, next, truth, isGiven}
 use Rattle.type_checks.specs.Check.{checkOf}
 use Rattle.type_size_and_depth.specs.Known.{knownSize}
 use Rattle.type_wellformed.specs.WellFormed.{wellFormed}

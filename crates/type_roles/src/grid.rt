@@ -8,7 +8,7 @@ ghost use Rattle.type_layers.specs.Layers.{layers};
 ghost use Rattle.type_wellformed.specs.WellFormed.{wellFormed};
 ghost use Rattle.type_roles.specs.Grid as rules;
 
-// What an entry says: refused, allowed, or allowed when the type is well formed.
+// The three values of an entry: refused, allowed, allowed when the type is well formed.
 const R: u8 = 0;
 
 const A: u8 = 1;
@@ -42,9 +42,9 @@ fn under(k: u64, row: [u8; 25]) -> u8
     row[k as usize]
 }
 
-// The entry of a role under a kind. Each arm takes one row, since the back end puts what is looked up on the stack: with
-// the role as an index it would be the whole grid.
-pub fn entry(role: Role, k: u64) -> u8
+// The entry of a role under a kind. A constant is written to the stack where it is used. So that this is one row each time,
+// each arm names its own, and what nobody reads the compiler drops; with the role as an index it would be the whole grid.
+pub fn entry_of(role: Role, k: u64) -> u8
     requires { ⌜ k < kind.none ⌝ }
     ensures { λ r. ⌜ r ≡ rules.entryOf role k ⌝ }
 {

@@ -1,4 +1,4 @@
-use crate::grid::entry;
+use crate::grid::entry_of;
 use crate::grid::says;
 use crate::role::Role;
 use type_first_refusal::check_type;
@@ -27,7 +27,7 @@ fn has_known_size(a: &[u64]) -> bool
     }
 }
 
-// A word member needs a known size, which no grid tells.
+// A word member needs a known size, which the grid does not tell.
 fn size_test(role: Role, a: &[u64]) -> bool
     ensures { λ r. ⌜ r ≡ grid.sizeTest role (isGiven (knownSize (layers (now (a .entry))))) ⌝ }
 {
@@ -48,6 +48,6 @@ pub fn can_be(role: Role, a: &[u64]) -> Verdict
 {
     match check_type(a) {
         Checked::Refused { number, place } => Verdict::Refused { number, place },
-        Checked::Good(_) => Verdict::of(says(entry(role, outer(a)), a) & size_test(role, a)),
+        Checked::Good(_) => Verdict::of(says(entry_of(role, outer(a)), a) & size_test(role, a)),
     }
 }

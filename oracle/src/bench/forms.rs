@@ -1,16 +1,13 @@
 //! Well-formedness.
 
 use super::measure::{repeated, Row};
-use super::types::{count, Type};
-use crate::face::type_face::{tj_is_wellformed, Raw};
+use super::types::{call, count, Original, Ours, Type};
+use crate::face::type_face::tj_is_wellformed;
 use crate::inputs::random::Random;
 use crate::inputs::types::good_type;
 use crate::original::prelude::ValueType;
 use crate::original::words::decode;
 use std::hint::black_box;
-
-type Ours = unsafe extern "C" fn(*const u64, usize) -> Raw;
-type Original = fn(&ValueType) -> bool;
 
 pub fn rows(random: &mut Random, show: &mut dyn FnMut(Row)) {
     for layers in [1, 4, 16] {
@@ -37,10 +34,6 @@ fn some_types(random: &mut Random, layers: usize) -> Vec<Type> {
         }
     }
     types
-}
-
-fn call(entry: Ours, t: &Type) -> Raw {
-    unsafe { entry(t.words.as_ptr(), t.words.len()) }
 }
 
 fn row(what: String, types: &[Type]) -> Row<'_> {

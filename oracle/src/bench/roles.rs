@@ -1,15 +1,12 @@
-//! The seven roles, all asked of each type.
+//! The seven roles, each asked of every type of a row.
 
 use super::measure::{repeated, Row};
-use super::types::{count, Type};
+use super::types::{call, count, Original, Ours, Type};
 use crate::face::type_face::*;
 use crate::inputs::random::Random;
 use crate::inputs::types::good_type;
 use crate::original::prelude::ValueType;
 use std::hint::black_box;
-
-type Ours = unsafe extern "C" fn(*const u64, usize) -> Raw;
-type Original = fn(&ValueType) -> bool;
 
 const ROLES: [(Ours, Original); 7] = [
     (tj_can_be_sized, ValueType::can_be_sized),
@@ -41,10 +38,6 @@ fn some_types(random: &mut Random, layers: usize) -> Vec<Type> {
         }
     }
     types
-}
-
-fn call(entry: Ours, t: &Type) -> Raw {
-    unsafe { entry(t.words.as_ptr(), t.words.len()) }
 }
 
 fn row(what: String, types: &[Type]) -> Row<'_> {

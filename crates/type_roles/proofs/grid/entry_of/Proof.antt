@@ -1,10 +1,10 @@
 use borrow.Author.Needs.{needs}
-use Rattle.type_roles.proofs.Entries.{looked-up}
-use Rattle.type_roles.proofs.grid.entry.Statement.{statement}
-use Rattle.type_roles.proofs.grid.entry.Tie as tie
+use Rattle.type_roles.proofs.Told.{looked-up}
+use Rattle.type_roles.proofs.grid.entry_of.Statement.{statement}
+use Rattle.type_roles.proofs.grid.entry_of.Tie as tie
 
-pub entry-spec : {M : Type 1} → statement M
-entry-spec =
+pub entry-of-spec : {M : Type 1} → statement M
+entry-of-spec =
     tie.close
     (tie.spec
     (λ c κs. search needs)
