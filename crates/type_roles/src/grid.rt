@@ -44,7 +44,7 @@ fn under(k: u64, row: [u8; 25]) -> u8
 
 // The entry of a role under a kind. A constant is written to the stack where it is used. So that this is one row each time,
 // each arm names its own, and what nobody reads the compiler drops; with the role as an index it would be the whole grid.
-pub fn entry_of(role: Role, k: u64) -> u8
+pub(crate) fn entry_of(role: Role, k: u64) -> u8
     requires { ⌜ k < kind.none ⌝ }
     ensures { λ r. ⌜ r ≡ rules.entryOf role k ⌝ }
 {
@@ -61,7 +61,7 @@ pub fn entry_of(role: Role, k: u64) -> u8
 }
 
 // What an entry says of a type; whether that is well formed is asked only where the entry does not tell.
-pub fn says(entry: u8, a: &[u64]) -> bool
+pub(crate) fn says(entry: u8, a: &[u64]) -> bool
     ensures { λ r. ⌜ r ≡ rules.says entry (wellFormed (layers (now (a .entry)))) ⌝ }
 {
     if entry == R {
