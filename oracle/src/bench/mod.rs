@@ -7,7 +7,6 @@ mod measure;
 mod pairs;
 mod plans;
 mod records;
-mod roles;
 mod types;
 mod updates;
 
@@ -62,7 +61,7 @@ fn rows(show: &mut dyn FnMut(Row)) {
     pairs::rows(random, show);
     forms::rows(random, show);
     // From a seed of their own, so that the questions of the rows below stay what they were.
-    roles::rows(&mut Random::new(1), show);
+    forms::role_rows(&mut Random::new(1), show);
     updates::rows(random, show);
     records::rows(random, show);
     fixing::rows(random, show);

@@ -1,6 +1,5 @@
 //! Types to ask about, in words and as the original has them.
 
-use crate::face::type_face::Raw;
 use crate::inputs::random::Random;
 use crate::inputs::relatives::{coerced, likened, relative};
 use crate::inputs::types::{good_type, words};
@@ -19,14 +18,6 @@ impl Type {
             original: decode(layers),
         }
     }
-}
-
-/// A question about one type, of our face and of the original.
-pub type Ours = unsafe extern "C" fn(*const u64, usize) -> Raw;
-pub type Original = fn(&ValueType) -> bool;
-
-pub fn call(entry: Ours, t: &Type) -> Raw {
-    unsafe { entry(t.words.as_ptr(), t.words.len()) }
 }
 
 /// A well-formed type of exactly so many layers.
