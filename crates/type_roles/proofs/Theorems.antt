@@ -1,7 +1,7 @@
 -- The grid gives the earlier answers, for each role and kind.
 -- Assumes nothing.
 use mathlib.Core.Path.{_≡_, refl, sym, _∙_}
-use mathlib.Core.Bool.{Bool, true, false, cond, not, _&&_, true≢false, false≢true}
+use mathlib.Core.Bool.{Bool, true, false, cond, not, _&&_, and-true, true≢false, false≢true}
 use mathlib.Core.List.{List, []}
 use Prim.Native.Nat.{ℕ, zero, suc, _+_, _≤_, _<_}
 use native.Mathlib.Nat.{add-zero, zero-add, add-suc, suc-add, le-of-suc-le-suc, not-suc-le-zero}
@@ -44,10 +44,6 @@ in-row p i (suc n) (suc k) d h = in-row p (suc i) n k d (le-of-suc-le-suc h) ∙
 -- in the row of a role, under a kind, the grid has the rule's entry
 pub in-grid : (p : Role) (k d : ℕ) (ds : List ℕ) → k < kind.none → getD (getD grid (rowNumber p) ds) k d ≡ entryOf p k
 in-grid p k d ds h = rw (row-in p ds) (in-row p 0 kind.none k d h ∙ (rw (zero-add k)))
-
-and-true : (w : Bool) → (w && true) ≡ w
-and-true true = refl
-and-true false = refl
 
 -- what stands under a kind that a role does not refuse
 abbrev otherwise : Role → ℕ
