@@ -10,9 +10,9 @@ use lib.ListN.{length, get_or, length-take, length-drop}
 use borrow.Author.Tests.{eqb-true, not-true, not-false}
 use Rattle.type_numbers.specs.Kind as kind
 use Rattle.type_numbers.specs.AsCoded.{words}
-use Rattle.type_layers.specs.Layers.{Layer, layer, layers, isReference, spelled}
+use Rattle.type_layers.specs.Layers.{Layer, layer, layers, is_reference, spelled}
 use Rattle.type_layers.specs.AsCoded.{head}
-use Rattle.type_layers.specs.Answer.{Answer, given, nothing, refused, ofChecked}
+use Rattle.type_layers.specs.Answer.{Answer, given, nothing, refused, of_checked}
 use Rattle.type_layers.specs.declared.answers.Checked.{Checked}
 use Rattle.type_layers.specs.declared.answers.Checked.TheVariants.{Good, Refused}
 use Rattle.type_layers.proofs.Words.{rest, none, more}
@@ -26,10 +26,10 @@ use Rattle.write_type.proofs.Outcomes.{stays}
 
 -- the kinds that externalizing goes inside of, and what becomes of such a layer
 abbrev pub goes : ℕ → Bool
-goes k = isReference k || eqb k kind.arraylike
+goes k = is_reference k || eqb k kind.arraylike
 
 abbrev pub turned : Layer → Layer
-turned x = cond (eqb x.kind kind.arraylike) (layer kind.endlessArray 0 0) x
+turned x = cond (eqb x.kind kind.arraylike) (layer kind.endless_array 0 0) x
 
 -- the three ways
 module _ (p : ℕ) (x : Layer) (a : List Layer) where
@@ -40,10 +40,10 @@ module _ (p : ℕ) (x : Layer) (a : List Layer) where
   module _ (e : kept x.kind ≡ false) where
     pub goes-inside : goes x.kind ≡ true → externalized p (x ∷ a) ≡ under (turned x ∷ []) (externalized (p + 1) a)
     unfolding externalized
-    goes-inside g = by_kind (isReference x.kind) (eqb x.kind kind.arraylike) refl refl g
+    goes-inside g = by_kind (is_reference x.kind) (eqb x.kind kind.arraylike) refl refl g
       where
-        by_kind : (r l : Bool) → isReference x.kind ≡ r → eqb x.kind kind.arraylike ≡ l → (r || l) ≡ true →
-            externalized p (x ∷ a) ≡ under (cond l (layer kind.endlessArray 0 0) x ∷ []) (externalized (p + 1) a)
+        by_kind : (r l : Bool) → is_reference x.kind ≡ r → eqb x.kind kind.arraylike ≡ l → (r || l) ≡ true →
+            externalized p (x ∷ a) ≡ under (cond l (layer kind.endless_array 0 0) x ∷ []) (externalized (p + 1) a)
         by_kind true true f h g = absurd (false≢true (rw (eqb-true x.kind kind.arraylike h) at f))
         by_kind true false f h g = rw (e, f)
         by_kind false true f h g = rw (e, f, h)
@@ -51,9 +51,9 @@ module _ (p : ℕ) (x : Layer) (a : List Layer) where
 
     pub refuses : goes x.kind ≡ false → externalized p (x ∷ a) ≡ refused 6 p
     unfolding externalized
-    refuses g = by_kind (isReference x.kind) (eqb x.kind kind.arraylike) refl refl g
+    refuses g = by_kind (is_reference x.kind) (eqb x.kind kind.arraylike) refl refl g
       where
-        by_kind : (r l : Bool) → isReference x.kind ≡ r → eqb x.kind kind.arraylike ≡ l → (r || l) ≡ false → externalized p (x ∷ a) ≡ refused 6 p
+        by_kind : (r l : Bool) → is_reference x.kind ≡ r → eqb x.kind kind.arraylike ≡ l → (r || l) ≡ false → externalized p (x ∷ a) ≡ refused 6 p
         by_kind true l f h g = absurd (true≢false g)
         by_kind false true f h g = absurd (true≢false g)
         by_kind false false f h g = rw (e, f, h)
@@ -117,12 +117,12 @@ told-given (given a) i e = record { type = a; made = refl }
 told-given nothing i e = let z : ◌≡◌ {A = ℕ} 0 1 = cc in absurd (omega arith)
 told-given (refused n p) i e = let z : ◌≡◌ {A = ℕ} 0 1 = cc in absurd (omega arith)
 
-turned-words : (x : Layer) → cond (eqb x.kind kind.arraylike) (words kind.endlessArray 0 0) (words x.kind x.name x.number) ≡ spelled (turned x ∷ [])
+turned-words : (x : Layer) → cond (eqb x.kind kind.arraylike) (words kind.endless_array 0 0) (words x.kind x.name x.number) ≡ spelled (turned x ∷ [])
 unfolding spelled
 turned-words x = by_kind (eqb x.kind kind.arraylike)
   where
     by_kind : (b : Bool) →
-        cond b (words kind.endlessArray 0 0) (words x.kind x.name x.number) ≡ spelled (cond b (layer kind.endlessArray 0 0) x ∷ [])
+        cond b (words kind.endless_array 0 0) (words x.kind x.name x.number) ≡ spelled (cond b (layer kind.endless_array 0 0) x ∷ [])
     by_kind true = refl
     by_kind false = refl
 
@@ -153,7 +153,7 @@ module _ (t : List ℕ) (p : ℕ) (m : List ℕ) where
         inside : outcome ≡ under (turned (head t) ∷ []) within
         inside = (rw (more t)) ∙ goes-inside p (head t) (layers (rest t)) (sym e ∙ q) (sym d ∙ not-false g n)
 
-        module _ (a : ofChecked r ≡ told within) (b : y ≡ over within (part 3 m)) where
+        module _ (a : of_checked r ≡ told within) (b : y ≡ over within (part 3 m)) where
           pub refused-inside : (i j : ℕ) → r ≡ Refused i j → (refused i j ≡ told outcome) × (put 3 m y ≡ over outcome m)
           unfolding under over
           refused-inside i j c =
@@ -163,7 +163,7 @@ module _ (t : List ℕ) (p : ℕ) (m : List ℕ) where
               rw same (stays outcome i j m o)
 
           pub made_inside : (i : ℕ) (l w : List ℕ) → length t % 3 ≡ 0 → length t ≤ length m → r ≡ Good i →
-              w ≡ cond (eqb (get_or t 0 0) kind.arraylike) (words kind.endlessArray 0 0) (words (get_or t 0 0) (get_or t 1 0) (get_or t 2 0)) →
+              w ≡ cond (eqb (get_or t 0 0) kind.arraylike) (words kind.endless_array 0 0) (words (get_or t 0 0) (get_or t 1 0) (get_or t 2 0)) →
               l ≡ written w (put 3 m y) → (given (length t) ≡ told outcome) × (l ≡ over outcome m)
           unfolding under over told spelled
           made_inside i l w whole room c z v =

@@ -11,25 +11,25 @@ use borrow.Author.Tests.{eq-eqb, ne_eqb, lt-ltb, le-ltb, not-true, not-false}
 use Rattle.type_numbers.specs.Kind as kind
 use Rattle.type_layers.specs.Layers.{Layer, layer, layers, outer, spelled}
 use Rattle.type_layers.specs.AsCoded.{Whole}
-use Rattle.type_layers.specs.Answer.{Answer, given, nothing, refused, ofChecked}
-use Rattle.type_checks.specs.Check.{checkOf}
+use Rattle.type_layers.specs.Answer.{Answer, given, nothing, refused, of_checked}
+use Rattle.type_checks.specs.Check.{check_of}
 use Rattle.type_layers.specs.declared.answers.Checked.{Checked}
 use Rattle.type_layers.specs.declared.answers.Checked.TheVariants.{Good, Refused}
 use Rattle.type_layers.proofs.Words.{inner-layers, inner-whole}
-use Rattle.type_wellformed.specs.WellFormed.{wellFormed}
+use Rattle.type_wellformed.specs.WellFormed.{well_formed}
 use Rattle.write_words.specs.Written.{written}
 use Rattle.write_words.proofs.Writing.{fits}
-use Rattle.extern_fixing.specs.Fixing.{under, externalized, externalize, fixedExtern, fixed}
+use Rattle.extern_fixing.specs.Fixing.{under, externalized, externalize, fixed_extern, fixed}
 use Rattle.type_numbers.specs.Context.{member}
-use Rattle.extern_plain.specs.Plain.{fixedPlain}
+use Rattle.extern_plain.specs.Plain.{fixed_plain}
 use Rattle.write_type.specs.Outcome.{delivered, told, over}
 use Rattle.type_checks.proofs.Accepted.{accepted-whole}
-use Rattle.extern_fixing.specs.Answers.{fixedType}
+use Rattle.extern_fixing.specs.Answers.{fixed_type}
 use Rattle.type_layers.proofs.Spelling.{spelled-length, spelled-layers, layers-spelled}
 use Rattle.extern_fixing.proofs.Externalizing.{told-refused, told-given, same_length}
 
 -- words that pass the checks are whole layers, and so are those inside
-pub checked-whole : (ws : List ℕ) (r : Checked) (i : ℕ) → ofChecked r ≡ checkOf ws → r ≡ Good i → Whole ws
+pub checked-whole : (ws : List ℕ) (r : Checked) (i : ℕ) → of_checked r ≡ check_of ws → r ≡ Good i → Whole ws
 checked-whole ws r i e h = accepted-whole ws i (sym e ∙ rw h)
 
 pub whole-inside : (ws l : List ℕ) → Whole ws → l ≡ drop 3 ws → Whole l
@@ -40,13 +40,13 @@ module _ (room place : ℕ) (front : List Layer) (t : List ℕ) where
   abbrev made_of : Answer (List Layer)
   made_of = delivered room (under front (externalize place (layers t)))
 
-  module _ (f : Bool) (e : f ≡ wellFormed (layers t)) where
+  module _ (f : Bool) (e : f ≡ well_formed (layers t)) where
     pub ill-formed : not f ≡ true → made_of ≡ refused 4 0
     unfolding externalize under delivered
     ill-formed n = rw (← e, not-true f n)
 
     module _ (n : not f ≡ false) where
-      pub not-allowed : (r : Checked) (i j : ℕ) → ofChecked r ≡ told (externalized place (layers t)) → r ≡ Refused i j → made_of ≡ refused i j
+      pub not-allowed : (r : Checked) (i j : ℕ) → of_checked r ≡ told (externalized place (layers t)) → r ≡ Refused i j → made_of ≡ refused i j
       unfolding externalize under delivered
       not-allowed r i j a c =
           let w = told-refused (externalized place (layers t)) i j (rw c at a) in
@@ -57,7 +57,7 @@ module _ (room place : ℕ) (front : List Layer) (t : List ℕ) where
       allowed b w = rw (← e, not-false f n, w)
 
 -- the words that it made are the front of the buffer
-pub copied : (t z made : List ℕ) (place i : ℕ) (r : Checked) → length t % 3 ≡ 0 → length t ≤ length z → ofChecked r ≡ told (externalized place (layers t)) →
+pub copied : (t z made : List ℕ) (place i : ℕ) (r : Checked) → length t % 3 ≡ 0 → length t ≤ length z → of_checked r ≡ told (externalized place (layers t)) →
     r ≡ Good i → made ≡ over (externalized place (layers t)) z → externalized place (layers t) ≡ given (layers (take (length t) made))
 unfolding over
 copied t z made place i r whole room a c d =
@@ -83,13 +83,13 @@ under_none nothing = refl
 under_none (refused n p) = refl
 
 module _ (ws : List ℕ) (k : ℕ) (e : k ≡ outer (layers ws)) where
-  pub as-endless : (front l : List ℕ) → front ≡ spelled (layer kind.view 0 0 ∷ layer kind.endlessArray 0 0 ∷ []) → l ≡ drop 3 ws → k ≡ kind.arraylike →
-      under (layers front) (externalize 1 (layers l)) ≡ fixedExtern (layers ws)
-  unfolding layers spelled fixedExtern
+  pub as-endless : (front l : List ℕ) → front ≡ spelled (layer kind.view 0 0 ∷ layer kind.endless_array 0 0 ∷ []) → l ≡ drop 3 ws → k ≡ kind.arraylike →
+      under (layers front) (externalize 1 (layers l)) ≡ fixed_extern (layers ws)
+  unfolding layers spelled fixed_extern
   as-endless front l f d h = rw (f, d, inner-layers ws, ← e, eq-eqb k kind.arraylike h)
 
-  pub as-any : (k ≡ kind.arraylike → ⊥) → under (layers []) (externalize 0 (layers ws)) ≡ fixedExtern (layers ws)
-  unfolding layers fixedExtern
+  pub as-any : (k ≡ kind.arraylike → ⊥) → under (layers []) (externalize 0 (layers ws)) ≡ fixed_extern (layers ws)
+  unfolding layers fixed_extern
   as-any n = rw (← e, ne_eqb k kind.arraylike n) (under_none (externalize 0 (layers ws)))
 
 -- both, by the context and the flag
@@ -99,20 +99,20 @@ module _ (external : Bool) (context : ℕ) (a : List Layer) where
   no-context room h = rw (lt-ltb member context h)
 
   module _ (h : context ≤ member) where
-    pub for-extern : external ≡ true → fixedExtern a ≡ fixed external context a
+    pub for-extern : external ≡ true → fixed_extern a ≡ fixed external context a
     unfolding fixed
     for-extern e = rw (le-ltb member context h, e)
 
-    pub for-plain : external ≡ false → given (fixedPlain context a) ≡ fixed external context a
+    pub for-plain : external ≡ false → given (fixed_plain context a) ≡ fixed external context a
     unfolding fixed
     for-plain e = rw (le-ltb member context h, e)
 
 -- for any words
-module _ (t : List ℕ) (external : Bool) (context room : ℕ) (r : Checked) (e : ofChecked r ≡ checkOf t) where
-  pub unchecked : (n p : ℕ) → r ≡ Refused n p → fixedType t external context room ≡ refused n p
-  unfolding fixedType
+module _ (t : List ℕ) (external : Bool) (context room : ℕ) (r : Checked) (e : of_checked r ≡ check_of t) where
+  pub unchecked : (n p : ℕ) → r ≡ Refused n p → fixed_type t external context room ≡ refused n p
+  unfolding fixed_type
   unchecked n p h = rw (← e, h)
 
-  pub checked : (i : ℕ) → r ≡ Good i → delivered room (fixed external context (layers t)) ≡ fixedType t external context room
-  unfolding fixedType
+  pub checked : (i : ℕ) → r ≡ Good i → delivered room (fixed external context (layers t)) ≡ fixed_type t external context room
+  unfolding fixed_type
   checked i h = rw (← e, h)

@@ -3,10 +3,10 @@ use Rattle.std.specs.Prelude.{Bool, cond, ◌||◌, List, [], ◌∷◌, ◌++�
 use Rattle.type_numbers.specs.Refusal as refusal
 use Rattle.type_numbers.specs.Context as of-context
 use Rattle.type_numbers.specs.Kind as kind
-use Rattle.type_layers.specs.Layers.{Layer, layer, outer, inside, isReference}
+use Rattle.type_layers.specs.Layers.{Layer, layer, outer, inside, is_reference}
 use Rattle.type_layers.specs.Answer.{Answer, given, nothing, refused}
-use Rattle.extern_plain.specs.Plain.{fixedPlain}
-use Rattle.type_wellformed.specs.WellFormed.{wellFormed}
+use Rattle.extern_plain.specs.Plain.{fixed_plain}
+use Rattle.type_wellformed.specs.WellFormed.{well_formed}
 
 -- Layers around a type that was made. A refusal stands.
 unfoldable pub under : List Layer → Answer (List Layer) → Answer (List Layer)
@@ -31,26 +31,26 @@ kept k =
 -- "goes inside Pointer and View; makes Arraylike an EndlessArray; refuses the rest with 6 and the layer."
 -- The type handed to it starts at layer p of the type given.
 unfoldable pub externalized : ℕ → List Layer → Answer (List Layer)
-externalized p [] = refused refusal.notInExtern p
+externalized p [] = refused refusal.not_in_extern p
 externalized p (x ∷ a) =
     cond (kept x.kind) (given (x ∷ a))
-    (cond (isReference x.kind) (under (x ∷ []) (externalized (p + 1) a))
-    (cond (eqb x.kind kind.arraylike) (under (layer kind.endlessArray 0 0 ∷ []) (externalized (p + 1) a))
-    (refused refusal.notInExtern p)))
+    (cond (is_reference x.kind) (under (x ∷ []) (externalized (p + 1) a))
+    (cond (eqb x.kind kind.arraylike) (under (layer kind.endless_array 0 0 ∷ []) (externalized (p + 1) a))
+    (refused refusal.not_in_extern p)))
 
 -- "The type handed to externalizing must be well formed, else 4."
 unfoldable pub externalize : ℕ → List Layer → Answer (List Layer)
-externalize p a = cond (wellFormed a) (externalized p a) (refused refusal.illFormed 0)
+externalize p a = cond (well_formed a) (externalized p a) (refused refusal.ill_formed 0)
 
 -- "Extern: Arraylike of e becomes View of EndlessArray of e externalized; anything else is externalized."
-unfoldable pub fixedExtern : List Layer → Answer (List Layer)
-fixedExtern a =
+unfoldable pub fixed_extern : List Layer → Answer (List Layer)
+fixed_extern a =
     cond (eqb (outer a) kind.arraylike)
-    (under (layer kind.view 0 0 ∷ layer kind.endlessArray 0 0 ∷ []) (externalize 1 (inside a)))
+    (under (layer kind.view 0 0 ∷ layer kind.endless_array 0 0 ∷ []) (externalize 1 (inside a)))
     (externalize 0 a)
 
 -- "5 bad context"
 unfoldable pub fixed : Bool → ℕ → List Layer → Answer (List Layer)
 fixed external context a =
-    cond (ltb of-context.member context) (refused refusal.badRequest 0)
-    (cond external (fixedExtern a) (given (fixedPlain context a)))
+    cond (ltb of-context.member context) (refused refusal.bad_request 0)
+    (cond external (fixed_extern a) (given (fixed_plain context a)))

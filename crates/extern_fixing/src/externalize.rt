@@ -1,9 +1,9 @@
 ghost use Rattle.std.specs.Prelude.{◌≡◌, cond, ◌||◌, [], ◌∷◌, ◌≤◌, eqb};
 ghost use Rattle.type_numbers.specs.Kind as kind;
 ghost use Rattle.type_numbers.specs.AsCoded.{words};
-ghost use Rattle.type_layers.specs.Layers.{layer, layers, isReference, spelled};
+ghost use Rattle.type_layers.specs.Layers.{layer, layers, is_reference, spelled};
 ghost use Rattle.type_layers.specs.AsCoded.{Whole};
-ghost use Rattle.type_layers.specs.Answer.{ofChecked};
+ghost use Rattle.type_layers.specs.Answer.{of_checked};
 ghost use Rattle.extern_fixing.specs.Fixing as fixing;
 ghost use Rattle.extern_fixing.specs.AsCoded.{Room};
 ghost use Rattle.write_type.specs.Outcome.{told, over, Writes};
@@ -31,14 +31,14 @@ fn is_kept(k: u64) -> bool
 }
 
 fn goes_inside(k: u64) -> bool
-    ensures { result ≡ isReference k || eqb k kind.arraylike }
+    ensures { result ≡ is_reference k || eqb k kind.arraylike }
 {
     (k == Kind::POINTER) | (k == Kind::VIEW) | (k == Kind::ARRAYLIKE)
 }
 
 // What becomes of a layer that externalizing goes inside of.
 fn external_layer(k: u64, name: u64, number: u64) -> [u64; 3]
-    ensures { result ≡ cond (eqb k kind.arraylike) (words kind.endlessArray 0 0) (words k name number) }
+    ensures { result ≡ cond (eqb k kind.arraylike) (words kind.endless_array 0 0) (words k name number) }
 {
     if k == Kind::ARRAYLIKE {
         Layer::endless_array()
@@ -50,7 +50,7 @@ fn external_layer(k: u64, name: u64, number: u64) -> [u64; 3]
 // Makes the type externalized. It starts at a place, a layer, of the type given.
 fn externalize_type(t: &[u64], place: u64, made: &mut [u64]) -> Checked
     requires { Room t.now place made.old }
-    ensures answer { ofChecked result ≡ told (fixing.externalized place (layers t.now)) }
+    ensures answer { of_checked result ≡ told (fixing.externalized place (layers t.now)) }
     ensures buffer { made.new ≡ over (fixing.externalized place (layers t.now)) made.old }
 {
     if t.len() < 3 {
@@ -101,7 +101,7 @@ fn externalize_part(front: &[u64], t: &[u64], place: u64, out: &mut [u64]) -> Ch
 }
 
 fn view_of_endless_array() -> [u64; 6]
-    ensures { result ≡ spelled (layer kind.view 0 0 ∷ layer kind.endlessArray 0 0 ∷ []) }
+    ensures { result ≡ spelled (layer kind.view 0 0 ∷ layer kind.endless_array 0 0 ∷ []) }
 {
     two_layers(Layer::view(), Layer::endless_array())
 }
@@ -109,7 +109,7 @@ fn view_of_endless_array() -> [u64; 6]
 // An extern type.
 pub(crate) fn fix_external(t: &[u64], out: &mut [u64]) -> Checked
     requires { Whole t.now }
-    ensures { Writes (fixing.fixedExtern (layers t.now))
+    ensures { Writes (fixing.fixed_extern (layers t.now))
         result out.old out.new }
 {
     if outer(t) == Kind::ARRAYLIKE {

@@ -1,10 +1,10 @@
 ghost use Rattle.std.specs.Prelude.{◌≡◌};
 ghost use Rattle.type_layers.specs.Layers.{layers};
 ghost use Rattle.type_layers.specs.AsCoded.{Whole};
-ghost use Rattle.type_layers.specs.Answer.{ofChecked};
+ghost use Rattle.type_layers.specs.Answer.{of_checked};
 ghost use Rattle.extern_fixing.specs.Fixing as fixing;
 ghost use Rattle.write_type.specs.Outcome.{Writes};
-ghost use Rattle.extern_fixing.specs.Answers.{fixedAnswer, fixedBuffer};
+ghost use Rattle.extern_fixing.specs.Answers.{fixed_answer, fixed_buffer};
 
 use crate::externalize::fix_external;
 use extern_plain::fix_plain;
@@ -32,8 +32,8 @@ fn fix_checked(t: &[u64], external: bool, context: u64, out: &mut [u64]) -> Chec
 
 // What a declared type becomes, written from the first word of the buffer on. A refusal leaves the buffer as it was.
 pub fn fix_type_for_flags(t: &[u64], external: bool, context: u64, out: &mut [u64]) -> Checked
-    ensures answer { ofChecked result ≡ fixedAnswer t.now external context out.old }
-    ensures buffer { out.new ≡ fixedBuffer t.now external context out.old }
+    ensures answer { of_checked result ≡ fixed_answer t.now external context out.old }
+    ensures buffer { out.new ≡ fixed_buffer t.now external context out.old }
 {
     match check_type(t) {
         Checked::Refused { number, place } => Checked::Refused { number, place },

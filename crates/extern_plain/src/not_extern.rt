@@ -18,7 +18,7 @@ fn is_viewed(context: u64) -> bool
 
 // A type that is not extern.
 pub fn fix_plain(t: &[u64], context: u64, out: &mut [u64]) -> Checked
-    ensures { Writes (given (fixed.fixedPlain context (layers t.now)))
+    ensures { Writes (given (fixed.fixed_plain context (layers t.now)))
         result out.old out.new }
 {
     let k = outer(t);

@@ -1,6 +1,6 @@
 -- No rule, but what contracts of the code need: what a settling adds to the rounds, in numbers.
 use Rattle.std.specs.Prelude.{Bool, true, false, List, ℕ, ◌-◌}
-use Rattle.type_parts.specs.Parts.{fullyDereferenced}
+use Rattle.type_parts.specs.Parts.{fully_dereferenced}
 use Rattle.type_numbers.specs.StepKind as of-step
 use Rattle.plan_settling.specs.declared.settling.Settling.{Settling}
 use Rattle.plan_settling.specs.declared.settling.Settling.TheVariants as settling
@@ -17,16 +17,16 @@ given extra kind lead address coerced =
 abbrev pub refused : ℕ → Ending
 refused number = record { refused = true; number = number; extra = 0; kind = 0; lead = 0; address = false; coerced = false }
 
-abbrev pub endingOf : Settling → ℕ → ℕ → Ending
-endingOf settling.Identical p n = given 0 of-step.autoderef 0 false false
-endingOf settling.Viewed p n = given 1 of-step.autoview 0 false false
-endingOf settling.Coerced p n = given 0 of-step.autoderef 0 false true
-endingOf settling.SlicePointer p n = given 0 of-step.autoderef 0 false false
-endingOf settling.PointedTo p n = given 0 of-step.autoderef 1 true false
-endingOf settling.AddressCoerced p n = given 0 of-step.autoderef 1 true true
-endingOf settling.Addressed p n = given 0 of-step.autoderef 1 true false
-endingOf settling.Dereferenced p n = given (unwound p n) of-step.autoderef n false false
-endingOf (settling.Refused k) p n = refused k
+abbrev pub ending_of : Settling → ℕ → ℕ → Ending
+ending_of settling.Identical p n = given 0 of-step.autoderef 0 false false
+ending_of settling.Viewed p n = given 1 of-step.autoview 0 false false
+ending_of settling.Coerced p n = given 0 of-step.autoderef 0 false true
+ending_of settling.SlicePointer p n = given 0 of-step.autoderef 0 false false
+ending_of settling.PointedTo p n = given 0 of-step.autoderef 1 true false
+ending_of settling.AddressCoerced p n = given 0 of-step.autoderef 1 true true
+ending_of settling.Addressed p n = given 0 of-step.autoderef 1 true false
+ending_of settling.Dereferenced p n = given (unwound p n) of-step.autoderef n false false
+ending_of (settling.Refused k) p n = refused k
 
 -- The words of the reported type after its Pointers, of the current type's and the target's.
 abbrev pub body_of : Settling → List ℕ → List ℕ → List ℕ
@@ -37,5 +37,5 @@ body_of settling.SlicePointer c t = c
 body_of settling.PointedTo c t = c
 body_of settling.AddressCoerced c t = c
 body_of settling.Addressed c t = c
-body_of settling.Dereferenced c t = fullyDereferenced c
+body_of settling.Dereferenced c t = fully_dereferenced c
 body_of (settling.Refused k) c t = c

@@ -53,7 +53,7 @@ fn refused(number: u64) -> Ending
 
 // Of a current type of the pointer depth p.
 pub fn ending_of(s: Settling, p: u64, depth: u64) -> Ending
-    ensures { result ≡ ending.endingOf s p depth }
+    ensures { result ≡ ending.ending_of s p depth }
 {
     match s {
         Settling::Identical => given(0, StepKind::AUTODEREF, 0, false, false),

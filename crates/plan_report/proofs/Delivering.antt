@@ -15,31 +15,31 @@ use Rattle.type_layers.specs.Answer.{Answer, given, refused}
 use Rattle.type_layers.proofs.Spelling.{spelled-length, spelled-append, spelled-layers}
 use Rattle.write_words.specs.Written.{written}
 use Rattle.write_words.proofs.Writing.{part, put, front-first}
-use Rattle.plan_steps.specs.Steps.{steps, stepWords}
+use Rattle.plan_steps.specs.Steps.{steps, step_words}
 use Rattle.plan_steps.proofs.Words.{words-length, words-whole}
 use Rattle.plan_settling.specs.Settling.{pointer}
 use Rattle.plan_ending.specs.declared.ending.Ending.{Ending}
 use Rattle.plan_report.specs.declared.report.Report.{Report}
 use Rattle.plan_report.specs.Plan.{Plan}
-use Rattle.plan_report.specs.AsCoded.{planOfWords}
-use Rattle.plan_report.specs.Report.{delivered, notGiven, told, stepsOver, typeOver, Hands}
+use Rattle.plan_report.specs.AsCoded.{plan_of_words}
+use Rattle.plan_report.specs.Report.{delivered, not_given, told, steps_over, type_over, Hands}
 
-pub refuses : (d : Answer Plan) (n p : ℕ) (s t : List ℕ) → d ≡ refused n p → Hands d (notGiven n p) s s t t
-unfolding told stepsOver typeOver
+pub refuses : (d : Answer Plan) (n p : ℕ) (s t : List ℕ) → d ≡ refused n p → Hands d (not_given n p) s s t t
+unfolding told steps_over type_over
 refuses d n p s t e = rw e (refl, (refl, refl))
 
 -- an outcome that is a refusal
 module _ (n p : ℕ) (outcome : Answer Plan) (e : outcome ≡ refused n p) where
-  pub told-refused : (r : Report) → r ≡ notGiven n p → r ≡ told outcome
+  pub told-refused : (r : Report) → r ≡ not_given n p → r ≡ told outcome
   unfolding told
   told-refused r i = rw e i
 
-  pub steps-stay : (s : List ℕ) → s ≡ stepsOver outcome s
-  unfolding stepsOver
+  pub steps-stay : (s : List ℕ) → s ≡ steps_over outcome s
+  unfolding steps_over
   steps-stay s = rw e refl
 
-  pub type-stays : (t : List ℕ) → t ≡ typeOver outcome t
-  unfolding typeOver
+  pub type-stays : (t : List ℕ) → t ≡ type_over outcome t
+  unfolding type_over
   type-stays t = rw e refl
 
 -- neither of two runs is too short
@@ -76,16 +76,16 @@ module _ (b : List ℕ) (m taken : ℕ) (e : Ending) (body s t : List ℕ) (room
   type = replicate e.lead pointer ++ layers body
 
   abbrev outcome : Answer Plan
-  outcome = delivered (length s) (length t) (planOfWords ws taken e body)
+  outcome = delivered (length s) (length t) (plan_of_words ws taken e body)
 
   step_count : length ws ≡ 4 * m
   step_count = length-take-le (4 * m) b room
 
-  step_words : stepWords (steps ws) ≡ ws
-  step_words = words-whole ws (omega (arith, step_count))
+  step_words_lem : step_words (steps ws) ≡ ws
+  step_words_lem = words-whole ws (omega (arith, step_count))
 
   step-number : length (steps ws) ≡ m
-  step-number = omega (arith, step_count, words-length (steps ws), ap length step_words)
+  step-number = omega (arith, step_count, words-length (steps ws), ap length step_words_lem)
 
   type-words : spelled type ≡ spelled (replicate e.lead pointer) ++ body
   type-words = rw (spelled-append, spelled-layers body w.whole)
@@ -93,8 +93,8 @@ module _ (b : List ℕ) (m taken : ℕ) (e : Ending) (body s t : List ℕ) (room
   type-count : length (spelled type) ≡ 3 * e.lead + length body
   type-count = rw (type-words, length-append, pointers-length) refl
 
-  pub too_wide : 48 < 3 * e.lead + length body → Hands outcome (notGiven 15 0) s s t t
-  unfolding planOfWords delivered
+  pub too_wide : 48 < 3 * e.lead + length body → Hands outcome (not_given 15 0) s s t t
+  unfolding plan_of_words delivered
   too_wide h =
       let n : 16 < length type = omega (arith, type-count, spelled-length type) in
       refuses outcome 15 0 s t (rw (lt-ltb 16 (length type) n))
@@ -103,22 +103,22 @@ module _ (b : List ℕ) (m taken : ℕ) (e : Ending) (body s t : List ℕ) (room
     narrow_type : length type ≤ 16
     narrow_type = omega (arith, type-count, spelled-length type)
 
-    pub too_short : (ltb (length s) (4 * m) || ltb (length t) (3 * e.lead + length body)) ≡ true → Hands outcome (notGiven 14 0) s s t t
-    unfolding planOfWords delivered
-    too_short f = refuses outcome 14 0 s t (rw (le-ltb 16 (length type) narrow_type, step_words, step_count, type-count, f))
+    pub too_short : (ltb (length s) (4 * m) || ltb (length t) (3 * e.lead + length body)) ≡ true → Hands outcome (not_given 14 0) s s t t
+    unfolding plan_of_words delivered
+    too_short f = refuses outcome 14 0 s t (rw (le-ltb 16 (length type) narrow_type, step_words_lem, step_count, type-count, f))
 
     module _ (f : (ltb (length s) (4 * m) || ltb (length t) (3 * e.lead + length body)) ≡ false) where
       pub fit : outcome ≡ given (record { steps = steps ws; taken = taken; type = type; address = e.address; coerced = e.coerced })
-      unfolding planOfWords delivered
-      fit = rw (le-ltb 16 (length type) narrow_type, step_words, step_count, type-count, f)
+      unfolding plan_of_words delivered
+      fit = rw (le-ltb 16 (length type) narrow_type, step_words_lem, step_count, type-count, f)
 
       pub wrote : (f₁ x y z : List ℕ) → 3 * e.lead + length body ≤ length t → f₁ ≡ spelled (replicate e.lead pointer) →
           x ≡ written ws s → y ≡ written f₁ t → z ≡ written body (part (3 * e.lead) y) →
           Hands outcome
           (record { refusal = 0; value = 0; steps = m; taken = taken; layers = (3 * e.lead + length body) / 3; address = e.address; coerced = e.coerced })
           s x t (put (3 * e.lead) y z)
-      unfolding told stepsOver typeOver
+      unfolding told steps_over type_over
       wrote f₁ x y z r p q i j =
           let n : (3 * e.lead + length body) / 3 ≡ length type = omega (arith, type-count, spelled-length type) in
           let l : length f₁ ≡ 3 * e.lead = rw (p, pointers-length) in
-          rw (fit, step-number, n, step_words, type-words) (refl, (q, rw (j, i) (front-first f₁ body t (3 * e.lead) l r ∙ rw p)))
+          rw (fit, step-number, n, step_words_lem, type-words) (refl, (q, rw (j, i) (front-first f₁ body t (3 * e.lead) l r ∙ rw p)))

@@ -8,8 +8,8 @@ use Rattle.plan_ending.specs.declared.ending.Ending.{Ending}
 use Rattle.plan_report.specs.Plan.{Plan, narrow}
 
 -- The plan of the steps that stand in words, and of the body under its Pointers.
-unfoldable pub planOfWords : List ℕ → ℕ → Ending → List ℕ → Answer Plan
-planOfWords ws taken e body =
+unfoldable pub plan_of_words : List ℕ → ℕ → Ending → List ℕ → Answer Plan
+plan_of_words ws taken e body =
     narrow (record {
       steps = steps ws;
       taken = taken;

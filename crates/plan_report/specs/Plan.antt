@@ -15,4 +15,4 @@ pub record Plan : Type 0 where
 
 -- "15 result over 16 layers"
 abbrev pub narrow : Plan → Answer Plan
-narrow p = cond (ltb limit.layers (length p.type)) (refused refusal.tooManyLayers 0) (given p)
+narrow p = cond (ltb limit.layers (length p.type)) (refused refusal.too_many_layers 0) (given p)

@@ -1,7 +1,7 @@
 ghost use Rattle.std.specs.Prelude.{◌≡◌, ◌*◌, ◌≤◌, length, take};
 ghost use Rattle.type_layers.specs.AsCoded.{Whole};
 ghost use Rattle.plan_report.specs.Report as report;
-ghost use Rattle.plan_report.specs.AsCoded.{planOfWords};
+ghost use Rattle.plan_report.specs.AsCoded.{plan_of_words};
 
 use crate::pointers::pointers;
 use crate::report::Report;
@@ -10,7 +10,7 @@ use type_numbers::{Limit, Refusal};
 use write_words::write_words;
 
 pub fn refuse(number: u64, place: u64) -> Report
-    ensures { result ≡ report.notGiven number place }
+    ensures { result ≡ report.not_given number place }
 {
     Report {
         refusal: number,
@@ -35,7 +35,7 @@ pub fn deliver(
 ) -> Report
     requires { (4 * m ≤ length buf.now) × Whole body.now × (e.lead ≤ 255) }
     ensures { report.Delivers
-        (λ room wide. report.delivered room wide (planOfWords (take (4 * m) buf.now) taken e body.now))
+        (λ room wide. report.delivered room wide (plan_of_words (take (4 * m) buf.now) taken e body.now))
         result steps.old steps.new ty.old ty.new }
 {
     let lead = 3 * e.lead as usize;

@@ -9,15 +9,15 @@ use lib.ListN.{drop}
 use Rattle.type_layers.specs.Layers.{Layer, layers, outer, inside}
 use Rattle.type_layers.specs.Answer.{Answer, given, refused}
 use Rattle.type_layers.proofs.Words.{inner-layers}
-use Rattle.type_wellformed.specs.WellFormed.{wellFormed}
+use Rattle.type_wellformed.specs.WellFormed.{well_formed}
 use Rattle.plan_steps.specs.Steps.{Step}
 use Rattle.plan_turn.specs.Turn.{Turn}
 use Rattle.plan_turn.proofs.Cases.{cases}
 use Rattle.symbol_members.specs.Member.{Stored}
-use Rattle.symbol_members.specs.Members.{ofLayers}
-use Rattle.plan_rounds.specs.Rounds.{goes, turnAt, memberType}
+use Rattle.symbol_members.specs.Members.{of_layers}
+use Rattle.plan_rounds.specs.Rounds.{goes, turn_at, member_type}
 use Rattle.plan_rounds.specs.AsCoded.{onto}
-use Rattle.plan_rounds.proofs.Refusing.{memberRefusal, refusal}
+use Rattle.plan_rounds.proofs.Refusing.{member_refusal, refusal}
 
 -- the layers inside
 pub one_in : (t : List Layer) → drop 1 t ≡ inside t
@@ -38,9 +38,9 @@ Outcome e u g = (e ≡ 0 → g ≡ given u) × ((e ≡ 0 → ⊥) → g ≡ refu
 abbrev onward : (u v : List Layer) → v ≡ u → Outcome 0 u (given v)
 onward u v e = (λ z. ap given e, λ z. absurd (z refl))
 
-member-outcome : (t : List Layer) → Outcome (memberRefusal t) t (memberType (ofLayers t))
+member-outcome : (t : List Layer) → Outcome (member_refusal t) t (member_type (of_layers t))
 member-outcome [] = (λ z. absurd (omega arith), λ z. refl)
-member-outcome (x ∷ t) = by_form (wellFormed (x ∷ t))
+member-outcome (x ∷ t) = by_form (well_formed (x ∷ t))
   where
     by_form : (f : Bool) → Outcome (cond f 0 4) (x ∷ t) (cond f (given (x ∷ t)) (refused 4 0))
     by_form true = (λ z. refl, λ z. absurd (z refl))
@@ -48,7 +48,7 @@ member-outcome (x ∷ t) = by_form (wellFormed (x ∷ t))
 
 module _ (member : ℕ → List ℕ) (ws : List ℕ) (a : Step) where
   abbrev stored : ℕ → Stored
-  stored id = ofLayers (layers (member id))
+  stored id = of_layers (layers (member id))
 
   abbrev Goes : Turn → Type 0
   Goes r = Outcome (refusal r (layers (onto member ws a.handle r))) (layers (onto member ws a.handle r)) (goes stored (layers ws) a r)
@@ -56,7 +56,7 @@ module _ (member : ℕ → List ℕ) (ws : List ℕ) (a : Step) where
   inner-two : layers (drop 3 (drop 3 ws)) ≡ inside (inside (layers ws))
   inner-two = inner-layers (drop 3 ws) ∙ ap inside (inner-layers ws)
 
-  pub going : Goes (turnAt (layers ws) a)
+  pub going : Goes (turn_at (layers ws) a)
   unfolding onto refusal
   going =
       cases (outer (layers ws)) (outer (inside (layers ws))) a.kind a.mark Goes

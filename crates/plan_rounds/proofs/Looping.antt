@@ -12,15 +12,15 @@ use Rattle.type_layers.specs.Layers.{layers}
 use Rattle.type_layers.specs.AsCoded.{Whole}
 use Rattle.type_layers.specs.Answer.{Answer, refused}
 use Rattle.plan_steps.specs.Steps.{steps}
-use Rattle.plan_steps.specs.AsCoded.{stepAt}
+use Rattle.plan_steps.specs.AsCoded.{step_at}
 use Rattle.plan_turn.specs.Turn.{Turn}
 use Rattle.plan_report.specs.declared.report.Report.{Report}
 use Rattle.plan_report.specs.Plan.{Plan}
-use Rattle.plan_report.specs.Report.{notGiven, told, stepsOver, typeOver}
+use Rattle.plan_report.specs.Report.{not_given, told, steps_over, type_over}
 use Rattle.plan_report.proofs.Delivering as outcome
-use Rattle.symbol_members.specs.Members.{ofLayers}
-use Rattle.plan_rounds.specs.Rounds.{ended, steps_of, takenBy, turnAt, inRounds}
-use Rattle.plan_rounds.specs.AsCoded.{onto, AllWhole, finished, planInRounds}
+use Rattle.symbol_members.specs.Members.{of_layers}
+use Rattle.plan_rounds.specs.Rounds.{ended, steps_of, taken_by, turn_at, in_rounds}
+use Rattle.plan_rounds.specs.AsCoded.{onto, AllWhole, finished, plan_in_rounds}
 use Rattle.plan_rounds.proofs.Refusing.{refusal}
 use Rattle.plan_rounds.proofs.Pushing.{Pushed}
 use Rattle.plan_rounds.proofs.Reading.{onto-whole}
@@ -47,7 +47,7 @@ along-start member rounds known asked w =
       whole = w;
     }
 
-pub one_at_most : (t : Turn) (k : ℕ) → k ≡ takenBy t → k ≤ 1
+pub one_at_most : (t : Turn) (k : ℕ) → k ≡ taken_by t → k ≤ 1
 one_at_most t k e = omega (arith, took-few t)
 
 module _ (member : ℕ → List ℕ) (rounds : ℕ) (known asked buf cur rest : List ℕ) (i n taken : ℕ) (a : Along member rounds known asked buf cur rest i n taken) where
@@ -66,16 +66,16 @@ module _ (member : ℕ → List ℕ) (rounds : ℕ) (known asked buf cur rest : 
   pub end-room : (m : ℕ) → m ≤ 128 → 4 * (m + 16) ≤ length buf
   end-room m h = omega (arith, a.room)
 
-  pub taken-fits : (t : Turn) (k : ℕ) → rounds ≤ 64 → k ≡ takenBy t → Fits w64 (taken + k)
+  pub taken-fits : (t : Turn) (k : ℕ) → rounds ≤ 64 → k ≡ taken_by t → Fits w64 (taken + k)
   taken-fits t k h e = record { fits = omega (arith, a.within, a.least, took-few t) }
 
   module _ (target : List ℕ) (level room wide : ℕ) where
     abbrev whole-plan : Answer Plan
-    whole-plan = planInRounds member known asked target level rounds room wide
+    whole-plan = plan_in_rounds member known asked target level rounds room wide
 
     -- left: by the rounds, or by the asked steps
     module _ (out : (rounds ≤ i) ⊎ (length rest < 4)) where
-      ended_so : inRounds (λ id. ofLayers (layers (member id))) rounds (layers known) (steps asked) ≡ ended (steps (take (4 * n) buf)) taken (layers cur)
+      ended_so : in_rounds (λ id. of_layers (layers (member id))) rounds (layers known) (steps asked) ≡ ended (steps (take (4 * n) buf)) taken (layers cur)
       ended_so = ends member rounds known asked buf cur rest i n taken a.so out
 
       -- with asked steps untaken
@@ -83,13 +83,13 @@ module _ (member : ℕ → List ℕ) (rounds : ℕ) (known asked buf cur rest : 
         untaken : whole-plan ≡ refused 18 taken
         untaken = rounds-left member known asked target level rounds room wide (take (4 * n) buf) taken (layers cur) ended_so left
 
-        pub told-left : (r : Report) → r ≡ notGiven 18 taken → r ≡ told whole-plan
+        pub told-left : (r : Report) → r ≡ not_given 18 taken → r ≡ told whole-plan
         told-left r q = outcome.told-refused 18 taken _ untaken r q
 
-        pub steps-left : (s : List ℕ) → s ≡ stepsOver whole-plan s
+        pub steps-left : (s : List ℕ) → s ≡ steps_over whole-plan s
         steps-left s = outcome.steps-stay 18 taken _ untaken s
 
-        pub type-left : (s : List ℕ) → s ≡ typeOver whole-plan s
+        pub type-left : (s : List ℕ) → s ≡ type_over whole-plan s
         type-left s = outcome.type-stays 18 taken _ untaken s
 
       -- with all of them taken
@@ -103,36 +103,36 @@ module _ (member : ℕ → List ℕ) (rounds : ℕ) (known asked buf cur rest : 
         pub told-end : (r : Report) → r ≡ told end → r ≡ told whole-plan
         told-end r q = q ∙ ap told same
 
-        pub steps-end : (s after : List ℕ) → after ≡ stepsOver end s → after ≡ stepsOver whole-plan s
-        steps-end s after q = q ∙ ap (λ (p : Answer Plan). stepsOver p s) same
+        pub steps-end : (s after : List ℕ) → after ≡ steps_over end s → after ≡ steps_over whole-plan s
+        steps-end s after q = q ∙ ap (λ (p : Answer Plan). steps_over p s) same
 
-        pub type-end : (s after : List ℕ) → after ≡ typeOver end s → after ≡ typeOver whole-plan s
-        type-end s after q = q ∙ ap (λ (p : Answer Plan). typeOver p s) same
+        pub type-end : (s after : List ℕ) → after ≡ type_over end s → after ≡ type_over whole-plan s
+        type-end s after q = q ∙ ap (λ (p : Answer Plan). type_over p s) same
 
   -- one round
-  module _ (lt : i < rounds) (more : 4 ≤ length rest) (t : Turn) (is : t ≡ turnAt (layers cur) (stepAt rest)) (next : List ℕ)
-      (f : next ≡ onto member cur (stepAt rest).handle t) where
+  module _ (lt : i < rounds) (more : 4 ≤ length rest) (t : Turn) (is : t ≡ turn_at (layers cur) (step_at rest)) (next : List ℕ)
+      (f : next ≡ onto member cur (step_at rest).handle t) where
     module _ (target : List ℕ) (level room wide : ℕ) (e : ℕ) (g : e ≡ refusal t (layers next)) (z : 0 < e) where
-      refusing : planInRounds member known asked target level rounds room wide ≡ refused e 0
+      refusing : plan_in_rounds member known asked target level rounds room wide ≡ refused e 0
       refusing = rounds-refused member known asked target level rounds room wide e (stops member rounds known asked buf cur rest i n taken a.so lt more t is next f e g (λ q. omega (arith, q)))
 
-      pub told-refusal : (r : Report) → r ≡ notGiven e 0 → r ≡ told (planInRounds member known asked target level rounds room wide)
+      pub told-refusal : (r : Report) → r ≡ not_given e 0 → r ≡ told (plan_in_rounds member known asked target level rounds room wide)
       told-refusal r q = outcome.told-refused e 0 _ refusing r q
 
-      pub steps-stay : (s : List ℕ) → s ≡ stepsOver (planInRounds member known asked target level rounds room wide) s
+      pub steps-stay : (s : List ℕ) → s ≡ steps_over (plan_in_rounds member known asked target level rounds room wide) s
       steps-stay s = outcome.steps-stay e 0 _ refusing s
 
-      pub type-stays : (s : List ℕ) → s ≡ typeOver (planInRounds member known asked target level rounds room wide) s
+      pub type-stays : (s : List ℕ) → s ≡ type_over (plan_in_rounds member known asked target level rounds room wide) s
       type-stays s = outcome.type-stays e 0 _ refusing s
 
-    pub along-turn : 0 ≡ refusal t (layers next) → AllWhole member → (buf' rest' : List ℕ) (n' k : ℕ) → Pushed buf n buf' n' (steps_of (stepAt rest) t) → length buf' ≡ length buf → k ≡ takenBy t → rest' ≡ drop (4 * k) rest →
+    pub along-turn : 0 ≡ refusal t (layers next) → AllWhole member → (buf' rest' : List ℕ) (n' k : ℕ) → Pushed buf n buf' n' (steps_of (step_at rest) t) → length buf' ≡ length buf → k ≡ taken_by t → rest' ≡ drop (4 * k) rest →
         Along member rounds known asked buf' next rest' (i + 1) n' (taken + k)
     along-turn g all buf' rest' n' k pushed long ek er =
         record {
           so = turns member rounds known asked buf cur rest i n taken a.so lt more t is next f 0 g refl buf' rest' n' k pushed ek er;
           within = omega arith;
-          few = omega (arith, a.few, steps-few (stepAt rest) t, pushed.0);
+          few = omega (arith, a.few, steps-few (step_at rest) t, pushed.0);
           least = omega (arith, a.least, took-few t);
           room = long ∙ a.room;
-          whole = rw f (onto-whole member all cur (stepAt rest).handle t a.whole);
+          whole = rw f (onto-whole member all cur (step_at rest).handle t a.whole);
         }

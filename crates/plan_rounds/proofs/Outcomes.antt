@@ -9,22 +9,22 @@ use Rattle.type_layers.specs.Layers.{Layer, layers}
 use Rattle.type_layers.specs.Answer.{refused}
 use Rattle.plan_steps.specs.Steps.{steps}
 use Rattle.plan_steps.proofs.Words.{steps-length}
-use Rattle.symbol_members.specs.Members.{ofLayers}
-use Rattle.plan_rounds.specs.Rounds.{ended, stopped, inRounds}
+use Rattle.symbol_members.specs.Members.{of_layers}
+use Rattle.plan_rounds.specs.Rounds.{ended, stopped, in_rounds}
 use Rattle.plan_report.specs.Report.{delivered}
-use Rattle.plan_rounds.specs.AsCoded.{finished, planInRounds}
+use Rattle.plan_rounds.specs.AsCoded.{finished, plan_in_rounds}
 
 module _ (member : ℕ → List ℕ) (known asked target : List ℕ) (level rounds : ℕ) where
-  pub rounds-refused : (room wide e : ℕ) → inRounds (λ id. ofLayers (layers (member id))) rounds (layers known) (steps asked) ≡ stopped e →
-      planInRounds member known asked target level rounds room wide ≡ refused e 0
-  unfolding planInRounds delivered
+  pub rounds-refused : (room wide e : ℕ) → in_rounds (λ id. of_layers (layers (member id))) rounds (layers known) (steps asked) ≡ stopped e →
+      plan_in_rounds member known asked target level rounds room wide ≡ refused e 0
+  unfolding plan_in_rounds delivered
   rounds-refused room wide e w = rw w refl
 
-  module _ (room wide : ℕ) (ws : List ℕ) (k : ℕ) (c : List Layer) (w : inRounds (λ id. ofLayers (layers (member id))) rounds (layers known) (steps asked) ≡ ended (steps ws) k c) where
-    pub rounds-left : k < length asked / 4 → planInRounds member known asked target level rounds room wide ≡ refused 18 k
-    unfolding planInRounds delivered
+  module _ (room wide : ℕ) (ws : List ℕ) (k : ℕ) (c : List Layer) (w : in_rounds (λ id. of_layers (layers (member id))) rounds (layers known) (steps asked) ≡ ended (steps ws) k c) where
+    pub rounds-left : k < length asked / 4 → plan_in_rounds member known asked target level rounds room wide ≡ refused 18 k
+    unfolding plan_in_rounds delivered
     rounds-left h = rw (w, steps-length asked, lt-ltb k (length asked / 4) h) refl
 
-    pub rounds-ended : length asked / 4 ≤ k → planInRounds member known asked target level rounds room wide ≡ finished ws k c (layers target) level room wide
-    unfolding planInRounds finished
+    pub rounds-ended : length asked / 4 ≤ k → plan_in_rounds member known asked target level rounds room wide ≡ finished ws k c (layers target) level room wide
+    unfolding plan_in_rounds finished
     rounds-ended h = rw (w, steps-length asked, le-ltb k (length asked / 4) h) refl

@@ -2,7 +2,7 @@ ghost use Rattle.std.specs.Prelude.{◌≡◌, ◌++◌, ◌+◌, ◌*◌, ◌�
 ghost use Rattle.type_numbers.specs.Limit as limit;
 ghost use Rattle.type_layers.specs.Layers.{layers};
 ghost use Rattle.type_layers.specs.AsCoded.{Whole};
-ghost use Rattle.plan_steps.specs.Steps.{step, stepWords};
+ghost use Rattle.plan_steps.specs.Steps.{step, step_words};
 ghost use Rattle.plan_report.specs.Report as report;
 ghost use Rattle.plan_rounds.specs.AsCoded.{finished};
 
@@ -16,7 +16,7 @@ use type_size_and_depth::depth;
 fn push_autos(buf: &mut [u64], n: usize, kind: u64, count: usize) -> usize
     requires { 4 * (n + count) ≤ length buf.old }
     ensures { (result ≡ n + length (replicate count (step kind 0 0 0)))
-        × (take (4 * result) buf.new ≡ take (4 * n) buf.old ++ stepWords (replicate count (step kind 0 0 0))) }
+        × (take (4 * result) buf.new ≡ take (4 * n) buf.old ++ step_words (replicate count (step kind 0 0 0))) }
 {
     let mut i = 0;
     while i < count {

@@ -1,10 +1,10 @@
 ghost use Rattle.std.specs.Prelude.{◌≡◌, ◌++◌, ◌+◌, ◌*◌, ◌≤◌, length, take, get_or};
 ghost use Rattle.type_layers.specs.Layers.{layers};
-ghost use Rattle.plan_steps.specs.Steps.{stepWords};
-ghost use Rattle.plan_steps.specs.AsCoded.{stepAt};
-ghost use Rattle.plan_turn.specs.AsCoded.{ofTurn};
-ghost use Rattle.symbol_members.specs.AsCoded.{memberIn};
-ghost use Rattle.plan_rounds.specs.Rounds.{steps_of, takenBy, turnAt};
+ghost use Rattle.plan_steps.specs.Steps.{step_words};
+ghost use Rattle.plan_steps.specs.AsCoded.{step_at};
+ghost use Rattle.plan_turn.specs.AsCoded.{of_turn};
+ghost use Rattle.symbol_members.specs.AsCoded.{member_in};
+ghost use Rattle.plan_rounds.specs.Rounds.{steps_of, taken_by, turn_at};
 ghost use Rattle.plan_rounds.specs.AsCoded as rounds;
 
 use plan_steps::four;
@@ -23,7 +23,7 @@ fn word(q: &[u64], i: usize) -> u64
 
 // What a round decides of the current type and the first of the asked steps.
 pub(crate) fn turn_at(cur: &[u64], q: &[u64]) -> Turn
-    ensures { ofTurn result ≡ turnAt (layers cur.now) (stepAt q.now) }
+    ensures { of_turn result ≡ turn_at (layers cur.now) (step_at q.now) }
 {
     turn_of(outer(cur), outer(inner(cur)), word(q, 0), word(q, 2))
 }
@@ -37,8 +37,8 @@ pub(crate) fn onto<'a>(
     q: &[u64],
     t: Turn,
 ) -> &'a [u64]
-    ensures { result.now ≡ rounds.onto (memberIn flat.now n store.now)
-        cur.now (stepAt q.now).handle (ofTurn t) }
+    ensures { result.now ≡ rounds.onto (member_in flat.now n store.now)
+        cur.now (step_at q.now).handle (of_turn t) }
 {
     match t {
         Turn::Stuck => cur,
@@ -57,7 +57,7 @@ pub(crate) fn onto<'a>(
 
 // How many asked steps a round takes.
 pub(crate) fn took(t: Turn) -> usize
-    ensures { result ≡ takenBy (ofTurn t) }
+    ensures { result ≡ taken_by (of_turn t) }
 {
     match t {
         Turn::Stuck => 0,
@@ -71,8 +71,8 @@ pub(crate) fn took(t: Turn) -> usize
 // Writes a round's steps from step n on; where the next step goes. The words q start with the asked step.
 pub(crate) fn push(buf: &mut [u64], n: usize, q: &[u64], t: Turn) -> usize
     requires { 4 * n + 8 ≤ length buf.old }
-    ensures { (result ≡ n + length (steps_of (stepAt q.now) (ofTurn t)))
-        × (take (4 * result) buf.new ≡ take (4 * n) buf.old ++ stepWords (steps_of (stepAt q.now) (ofTurn t))) }
+    ensures { (result ≡ n + length (steps_of (step_at q.now) (of_turn t)))
+        × (take (4 * result) buf.new ≡ take (4 * n) buf.old ++ step_words (steps_of (step_at q.now) (of_turn t))) }
 {
     let at = 4 * n;
     let handle = word(q, 1);

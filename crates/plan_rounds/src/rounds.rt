@@ -1,9 +1,9 @@
 ghost use Rattle.std.specs.Prelude.{◌≡◌, ◌≤◌, ◌*◌, drop};
 ghost use Rattle.type_numbers.specs.Limit as limit;
 ghost use Rattle.type_layers.specs.AsCoded.{Whole};
-ghost use Rattle.symbol_members.specs.AsCoded.{memberIn};
+ghost use Rattle.symbol_members.specs.AsCoded.{member_in};
 ghost use Rattle.plan_report.specs.Report as report;
-ghost use Rattle.plan_rounds.specs.AsCoded.{AllWhole, planInRounds};
+ghost use Rattle.plan_rounds.specs.AsCoded.{AllWhole, plan_in_rounds};
 
 use crate::finish::finish;
 use crate::round::{onto, push, took, turn_at};
@@ -42,9 +42,9 @@ pub fn plan_in_rounds<'a>(
     ty: &mut [u64],
 ) -> Report
     requires whole { Whole known.now × Whole target.now × (level ≤ 255) × (rounds ≤ limit.rounds) }
-    requires all_whole { AllWhole (memberIn flat.now count store.now) }
+    requires all_whole { AllWhole (member_in flat.now count store.now) }
     ensures { report.Delivers
-        (planInRounds (memberIn flat.now count store.now)
+        (plan_in_rounds (member_in flat.now count store.now)
         known.now asked.now target.now level rounds)
         result steps.old steps.new ty.old ty.new }
 {

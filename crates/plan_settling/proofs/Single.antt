@@ -10,7 +10,7 @@ use Rattle.type_layers.proofs.Single.{Single}
 use Rattle.plan_settling.specs.Line as line
 use Rattle.plan_settling.specs.Line.{Line}
 use Rattle.plan_settling.specs.Settling.{Settled, line_of, settle}
-use Rattle.plan_settling.specs.AsCoded.{lineBy, ofSettling, Settles}
+use Rattle.plan_settling.specs.AsCoded.{line_by, of_settling, Settles}
 use Rattle.plan_settling.specs.declared.settling.Settling.{Settling}
 use Rattle.plan_settling.specs.declared.settling.Settling.TheVariants as settling
 use Rattle.plan_settling.proofs.settling.settle.Kinds.{ps, r}
@@ -32,7 +32,7 @@ outcome line.vi a = settling.AddressCoerced
 outcome line.vii a = last a
 
 module _ (c t : List Layer) (n : ℕ) where
-  is-outcome : (z : Settling) → z ≡ outcome (lineBy z) (ofSettling z c t n)
+  is-outcome : (z : Settling) → z ≡ outcome (line_by z) (of_settling z c t n)
   is-outcome settling.Identical = refl
   is-outcome settling.Viewed = refl
   is-outcome settling.Coerced = refl

@@ -5,9 +5,9 @@ use Rattle.type_numbers.specs.Kind as kind
 use Rattle.type_layers.specs.Layers.{Layer, layer, outer, inside}
 use Rattle.type_layers.specs.Answer.{Answer, given, refused}
 use Rattle.type_parts.specs.Parts.{references}
-use Rattle.type_size_and_depth.specs.Depth.{pointerDepth}
+use Rattle.type_size_and_depth.specs.Depth.{pointer_depth}
 use Rattle.relation_equals.specs.Equals.{identical}
-use Rattle.relation_coerces.specs.Coerces.{coerces, addressCoerces}
+use Rattle.relation_coerces.specs.Coerces.{coerces, address_coerces}
 use Rattle.type_numbers.specs.StepKind as of-step
 use Rattle.plan_steps.specs.Steps.{Step, step}
 use Rattle.plan_settling.specs.Line as line
@@ -32,7 +32,7 @@ by_address c b = settled [] (pointer ∷ c) true b
 
 -- "n=0, t of depth 0"
 abbrev pub plainly : List Layer → ℕ → Bool
-plainly t n = eqb n 0 && eqb (pointerDepth t) 0
+plainly t n = eqb n 0 && eqb (pointer_depth t) 0
 
 -- "c fully dereferenced under n Pointers, with p-n Autoderefs added"
 abbrev pub dereferenced : List Layer → ℕ → ℕ → Settled
@@ -40,11 +40,11 @@ dereferenced c n p =
     settled (replicate (p - n) (step of-step.autoderef 0 0 0)) (replicate n pointer ++ drop (references c) c) false false
 
 -- "(vii) p = depth of c: n≥p+2: 9; n=p+1: address; c a SlicePointer: 10; else ..."
-unfoldable pub settleOtherwise : List Layer → ℕ → ℕ → Answer Settled
-settleOtherwise c n p =
-    cond (leb (p + 2) n) (refused refusal.addressOfAddress 0)
+unfoldable pub settle_otherwise : List Layer → ℕ → ℕ → Answer Settled
+settle_otherwise c n p =
+    cond (leb (p + 2) n) (refused refusal.address_of_address 0)
     (cond (eqb n (p + 1)) (given (by_address c false))
-    (cond (eqb (outer c) kind.slicePointer) (refused refusal.slicePointerUnsettled 0)
+    (cond (eqb (outer c) kind.slice_pointer) (refused refusal.slice_pointer_unsettled 0)
     (given (dereferenced c n p))))
 
 -- Which line applies: the first of them.
@@ -57,22 +57,22 @@ line_of c t n =
     -- "(iii) same n and t, c coerces into t: coerced."
     (cond (plainly t n && coerces c t) line.iii
     -- "(iv) n=1, c a SlicePointer identical to t."
-    (cond (eqb n 1 && eqb (outer c) kind.slicePointer && identical c t) line.iv
+    (cond (eqb n 1 && eqb (outer c) kind.slice_pointer && identical c t) line.iv
     -- "(v) n>0, t points to c: address."
     (cond (ltb 0 n && eqb (outer t) kind.pointer && identical (inside t) c) line.v
     -- "(vi) n>0, c address coerces into t: address, coerced."
-    (cond (ltb 0 n && addressCoerces c t) line.vi
+    (cond (ltb 0 n && address_coerces c t) line.vi
     line.vii)))))
 
 -- What each line gives. "The reported type is c where no line says otherwise".
-unfoldable pub settleBy : Line → List Layer → List Layer → ℕ → Answer Settled
-settleBy line.i c t n = given (settled [] c false false)
-settleBy line.ii c t n = given (settled (step of-step.autoview 0 0 0 ∷ []) t false false)
-settleBy line.iii c t n = given (settled [] c false true)
-settleBy line.iv c t n = given (settled [] c false false)
-settleBy line.v c t n = given (by_address c false)
-settleBy line.vi c t n = given (by_address c true)
-settleBy line.vii c t n = settleOtherwise c n (pointerDepth c)
+unfoldable pub settle_by : Line → List Layer → List Layer → ℕ → Answer Settled
+settle_by line.i c t n = given (settled [] c false false)
+settle_by line.ii c t n = given (settled (step of-step.autoview 0 0 0 ∷ []) t false false)
+settle_by line.iii c t n = given (settled [] c false true)
+settle_by line.iv c t n = given (settled [] c false false)
+settle_by line.v c t n = given (by_address c false)
+settle_by line.vi c t n = given (by_address c true)
+settle_by line.vii c t n = settle_otherwise c n (pointer_depth c)
 
 unfoldable pub settle : List Layer → List Layer → ℕ → Answer Settled
-settle c t n = settleBy (line_of c t n) c t n
+settle c t n = settle_by (line_of c t n) c t n

@@ -10,25 +10,25 @@ use lib.ListN.{length, drop, get_or, length-drop, drop_of_length-le}
 use lib.Seq.{drop-drop, get_or-drop}
 use borrow.Author.Tests.{eqb-true, eq-eqb, ne_eqb, ltb-true, ltb-false, le-leb, lt-leb, not-true, not-false}
 use Rattle.type_layers.specs.Answer.{given, refused}
-use Rattle.plan_steps.specs.Steps.{Step, step, steps, goodStep, goodSteps, stepsAnswer}
+use Rattle.plan_steps.specs.Steps.{Step, step, steps, good_step, good_steps, steps_answer}
 use Rattle.plan_steps.proofs.Words.{steps-none, steps-more}
 
 -- one step, by its kind
 module _ (k h m n : ℕ) where
-  pub of-element : k ≡ 0 → (leb h (2 ^ 32 - 1) && leb m 2 && eqb n 0) ≡ goodStep (step k h m n)
-  unfolding goodStep
+  pub of-element : k ≡ 0 → (leb h (2 ^ 32 - 1) && leb m 2 && eqb n 0) ≡ good_step (step k h m n)
+  unfolding good_step
   of-element e = rw e
 
-  pub of-member : k ≡ 1 → (leb h (2 ^ 32 - 1) && leb m 1 && (eqb m 1 || eqb n 0)) ≡ goodStep (step k h m n)
-  unfolding goodStep
+  pub of-member : k ≡ 1 → (leb h (2 ^ 32 - 1) && leb m 1 && (eqb m 1 || eqb n 0)) ≡ good_step (step k h m n)
+  unfolding good_step
   of-member e = rw e
 
-  pub of-autodeslice : k ≡ 2 → (eqb h 0 && leb m 2 && eqb n 0) ≡ goodStep (step k h m n)
-  unfolding goodStep
+  pub of-autodeslice : k ≡ 2 → (eqb h 0 && leb m 2 && eqb n 0) ≡ good_step (step k h m n)
+  unfolding good_step
   of-autodeslice e = rw e
 
-  pub of-auto : (k ≡ 0 → ⊥) → (k ≡ 1 → ⊥) → (k ≡ 2 → ⊥) → (leb k 4 && eqb h 0 && eqb m 0 && eqb n 0) ≡ goodStep (step k h m n)
-  unfolding goodStep
+  pub of-auto : (k ≡ 0 → ⊥) → (k ≡ 1 → ⊥) → (k ≡ 2 → ⊥) → (leb k 4 && eqb h 0 && eqb m 0 && eqb n 0) ≡ good_step (step k h m n)
+  unfolding good_step
   of-auto a b c = rw (ne_eqb k 0 a, ne_eqb k 1 b, ne_eqb k 2 c)
 
 -- the step that starts at a word
@@ -47,7 +47,7 @@ pub record Passed (most : ℕ) (ws : List ℕ) (word : ℕ) : Type 0 where
   pub few : length ws / 4 ≤ most
   pub count : word % 4 ≡ 0
   pub within : word ≤ length ws
-  pub good : goodSteps (steps (drop word ws)) ≡ goodSteps (steps ws)
+  pub good : good_steps (steps (drop word ws)) ≡ good_steps (steps ws)
 
 counted : (a b : Bool) → (not a || b) ≡ false → (a ≡ true) × (b ≡ false)
 counted true false e = (refl, refl)
@@ -66,19 +66,19 @@ module _ (most : ℕ) (ws : List ℕ) where
         good = refl;
       }
 
-  pub miscounted : (not (eqb (length ws % 4) 0) || ltb most (length ws / 4)) ≡ true → refused 5 0 ≡ stepsAnswer most ws
-  unfolding stepsAnswer
+  pub miscounted : (not (eqb (length ws % 4) 0) || ltb most (length ws / 4)) ≡ true → refused 5 0 ≡ steps_answer most ws
+  unfolding steps_answer
   miscounted e = by-test (eqb (length ws % 4) 0) e
     where
       by-test : (f : Bool) → (not f || ltb most (length ws / 4)) ≡ true →
-          refused 5 0 ≡ cond (f && leb (length ws / 4) most && goodSteps (steps ws)) (given (length ws / 4)) (refused 5 0)
+          refused 5 0 ≡ cond (f && leb (length ws / 4) most && good_steps (steps ws)) (given (length ws / 4)) (refused 5 0)
       by-test false e = refl
       by-test true e = rw (lt-leb (length ws / 4) most (ltb-true most (length ws / 4) e))
 
   module _ (word : ℕ) (i : Passed most ws word) where
-    module _ (h : word < length ws) (good : Bool) (e : good ≡ goodStep (here ws word)) where
+    module _ (h : word < length ws) (good : Bool) (e : good ≡ good_step (here ws word)) where
       pub turn : not good ≡ false → Passed most ws (word + 4)
-      unfolding goodSteps
+      unfolding good_steps
       turn f =
           let step = at-word ws word (omega (arith, i.whole, i.count)) in
           record {
@@ -89,23 +89,23 @@ module _ (most : ℕ) (ws : List ℕ) where
             good = rw (step, ← e, not-false good f) at i.good;
           }
 
-      pub bad : not good ≡ true → refused 5 0 ≡ stepsAnswer most ws
-      unfolding stepsAnswer goodSteps
+      pub bad : not good ≡ true → refused 5 0 ≡ steps_answer most ws
+      unfolding steps_answer good_steps
       bad f =
           let step = at-word ws word (omega (arith, i.whole, i.count)) in
           rw (← i.good, step, ← e, not-true good f, and-false)
 
-    pub fine : length ws ≤ word → given (length ws / 4) ≡ stepsAnswer most ws
-    unfolding stepsAnswer goodSteps
+    pub fine : length ws ≤ word → given (length ws / 4) ≡ steps_answer most ws
+    unfolding steps_answer good_steps
     fine h =
         rw (← i.good, drop_of_length-le ws h, steps-none [] (omega arith), eq-eqb (length ws % 4) 0 i.whole, le-leb (length ws / 4) most i.few)
 
 -- words that are steps are whole steps
-pub steps-whole : (most : ℕ) (ws : List ℕ) (j : ℕ) → stepsAnswer most ws ≡ given j → length ws % 4 ≡ 0
-unfolding stepsAnswer
+pub steps-whole : (most : ℕ) (ws : List ℕ) (j : ℕ) → steps_answer most ws ≡ given j → length ws % 4 ≡ 0
+unfolding steps_answer
 steps-whole most ws j e = by-test (eqb (length ws % 4) 0) refl e
   where
     by-test : (f : Bool) → eqb (length ws % 4) 0 ≡ f →
-        cond (f && leb (length ws / 4) most && goodSteps (steps ws)) (given (length ws / 4)) (refused 5 0) ≡ given j → length ws % 4 ≡ 0
+        cond (f && leb (length ws / 4) most && good_steps (steps ws)) (given (length ws / 4)) (refused 5 0) ≡ given j → length ws % 4 ≡ 0
     by-test true p e = eqb-true (length ws % 4) 0 p
     by-test false p e = cc

@@ -9,8 +9,8 @@ use lib.Dec.{leb}
 use lib.ListN.{length, take, drop, set, length-append, length-take, length-drop}
 use lib.Seq.{sets-eq, take_at}
 use borrow.Author.Tests.{leb-true, le-leb, lt-leb}
-use Rattle.plan_steps.specs.Steps.{Step, step, steps, stepWords, goodStep, goodSteps}
-use Rattle.plan_steps.specs.AsCoded.{putStep, stepAt}
+use Rattle.plan_steps.specs.Steps.{Step, step, steps, step_words, good_step, good_steps}
+use Rattle.plan_steps.specs.AsCoded.{put_step, step_at}
 
 pub steps-none : (q : List ℕ) → length q < 4 → steps q ≡ []
 unfolding steps
@@ -20,7 +20,7 @@ steps-none (k ∷ j ∷ []) h = refl
 steps-none (k ∷ j ∷ m ∷ []) h = refl
 steps-none (k ∷ j ∷ m ∷ n ∷ q) h = absurd (omega arith)
 
-pub steps-more : (q : List ℕ) → 4 ≤ length q → steps q ≡ stepAt q ∷ steps (drop 4 q)
+pub steps-more : (q : List ℕ) → 4 ≤ length q → steps q ≡ step_at q ∷ steps (drop 4 q)
 unfolding steps
 steps-more [] h = absurd (omega arith)
 steps-more (k ∷ []) h = absurd (omega arith)
@@ -37,25 +37,25 @@ steps-length (k ∷ j ∷ m ∷ []) = refl
 steps-length (k ∷ j ∷ m ∷ n ∷ q) = omega (arith, steps-length q)
 
 -- the words of steps
-pub words-length : (ss : List Step) → length (stepWords ss) ≡ 4 * length ss
-unfolding stepWords
+pub words-length : (ss : List Step) → length (step_words ss) ≡ 4 * length ss
+unfolding step_words
 words-length [] = refl
 words-length (s ∷ ss) = omega (arith, words-length ss)
 
-pub words_append : (ss us : List Step) → stepWords (ss ++ us) ≡ stepWords ss ++ stepWords us
-unfolding stepWords
+pub words_append : (ss us : List Step) → step_words (ss ++ us) ≡ step_words ss ++ step_words us
+unfolding step_words
 words_append [] us = refl
 words_append (s ∷ ss) us = ap (λ (l : List ℕ). s.kind ∷ s.handle ∷ s.mark ∷ s.number ∷ l) (words_append ss us)
 
-pub words_back : (ss : List Step) → steps (stepWords ss) ≡ ss
-unfolding stepWords steps
+pub words_back : (ss : List Step) → steps (step_words ss) ≡ ss
+unfolding step_words steps
 words_back [] = refl
 words_back (s ∷ ss) = ap (λ (l : List Step). s ∷ l) (words_back ss)
 
-pub good-append : (ss us : List Step) → goodSteps (ss ++ us) ≡ (goodSteps ss && goodSteps us)
-unfolding goodSteps
+pub good-append : (ss us : List Step) → good_steps (ss ++ us) ≡ (good_steps ss && good_steps us)
+unfolding good_steps
 good-append [] us = refl
-good-append (s ∷ ss) us = rw (good-append ss us) (chain (goodStep s) (goodSteps ss) (goodSteps us))
+good-append (s ∷ ss) us = rw (good-append ss us) (chain (good_step s) (good_steps ss) (good_steps us))
   where
     chain : (a b c : Bool) → (a && (b && c)) ≡ (a && b && c)
     chain true b c = refl
@@ -63,30 +63,30 @@ good-append (s ∷ ss) us = rw (good-append ss us) (chain (goodStep s) (goodStep
 
 -- a step that is written
 module _ (b : List ℕ) (at k h m n : ℕ) where
-  pub put-in : at + 4 ≤ length b → putStep (step k h m n) at b ≡ take at b ++ (k ∷ h ∷ m ∷ n ∷ []) ++ drop (at + 4) b
-  unfolding putStep stepWords
+  pub put-in : at + 4 ≤ length b → put_step (step k h m n) at b ≡ take at b ++ (k ∷ h ∷ m ∷ n ∷ []) ++ drop (at + 4) b
+  unfolding put_step step_words
   put-in e = rw (le-leb (at + 4) (length b) e)
 
-  pub put-out : length b < at + 4 → b ≡ putStep (step k h m n) at b
-  unfolding putStep
+  pub put-out : length b < at + 4 → b ≡ put_step (step k h m n) at b
+  unfolding put_step
   put-out e = rw (lt-leb (at + 4) (length b) e)
 
-  pub put-short : length b < 4 → b ≡ putStep (step k h m n) at b
+  pub put-short : length b < 4 → b ≡ put_step (step k h m n) at b
   put-short e = put-out (omega arith)
 
-  pub put-past : 4 ≤ length b → length b - 4 < at → b ≡ putStep (step k h m n) at b
+  pub put-past : 4 ≤ length b → length b - 4 < at → b ≡ put_step (step k h m n) at b
   put-past e f = put-out (omega arith)
 
   pub put-sets : 4 ≤ length b → at ≤ length b - 4 →
-      set (set (set (set b at k) (at + 1) h) (at + 2) m) (at + 3) n ≡ putStep (step k h m n) at b
+      set (set (set (set b at k) (at + 1) h) (at + 2) m) (at + 3) n ≡ put_step (step k h m n) at b
   put-sets e f =
       let i : at + 1 ≡ suc at = omega arith in
       let j : at + 2 ≡ suc (suc at) = omega arith in
       let l : at + 3 ≡ suc (suc (suc at)) = omega arith in
       rw (i, j, l) (sets-eq (k ∷ h ∷ m ∷ n ∷ []) b at (omega arith)) ∙ sym (put-in (omega arith))
 
-pub put-length : (s : Step) (at : ℕ) (b : List ℕ) → length (putStep s at b) ≡ length b
-unfolding putStep stepWords
+pub put-length : (s : Step) (at : ℕ) (b : List ℕ) → length (put_step s at b) ≡ length b
+unfolding put_step step_words
 put-length s at b = by-room (leb (at + 4) (length b)) refl
   where
     by-room : (f : Bool) → leb (at + 4) (length b) ≡ f →
@@ -94,15 +94,15 @@ put-length s at b = by-room (leb (at + 4) (length b)) refl
     by-room true e = simp (length-append, length-take, length-drop) (omega (arith, leb-true (at + 4) (length b) e))
     by-room false e = refl
 
-pub put-take : (s : Step) (at : ℕ) (b : List ℕ) → at + 4 ≤ length b → take (at + 4) (putStep s at b) ≡ take at b ++ stepWords (s ∷ [])
-unfolding stepWords
+pub put-take : (s : Step) (at : ℕ) (b : List ℕ) → at + 4 ≤ length b → take (at + 4) (put_step s at b) ≡ take at b ++ step_words (s ∷ [])
+unfolding step_words
 put-take s at b e =
     let w : List ℕ = s.kind ∷ s.handle ∷ s.mark ∷ s.number ∷ [] in
     rw (put-in b at s.kind s.handle s.mark s.number e)
     (take_at (take at b ++ w) (drop (at + 4) b) (at + 4) (simp (length-append, length-take) (omega arith)))
 
-pub words-whole : (q : List ℕ) → length q % 4 ≡ 0 → stepWords (steps q) ≡ q
-unfolding stepWords steps
+pub words-whole : (q : List ℕ) → length q % 4 ≡ 0 → step_words (steps q) ≡ q
+unfolding step_words steps
 words-whole [] h = refl
 words-whole (k ∷ []) h = absurd (omega (arith, h))
 words-whole (k ∷ j ∷ []) h = absurd (omega (arith, h))

@@ -1,11 +1,11 @@
 -- No rule, but what contracts of the code need: a step written into a run of words.
 use Rattle.std.specs.Prelude.{cond, List, [], ◌∷◌, ◌++◌, ℕ, ◌+◌, leb, length, take, drop, get_or}
-use Rattle.plan_steps.specs.Steps.{Step, step, stepWords}
+use Rattle.plan_steps.specs.Steps.{Step, step, step_words}
 
 -- A step's words over those from a place on; the run itself where they do not fit.
-unfoldable pub putStep : Step → ℕ → List ℕ → List ℕ
-putStep s at b = cond (leb (at + 4) (length b)) (take at b ++ stepWords (s ∷ []) ++ drop (at + 4) b) b
+unfoldable pub put_step : Step → ℕ → List ℕ → List ℕ
+put_step s at b = cond (leb (at + 4) (length b)) (take at b ++ step_words (s ∷ []) ++ drop (at + 4) b) b
 
 -- The first step of a run of words; zeros where they are not there.
-abbrev pub stepAt : List ℕ → Step
-stepAt q = step (get_or q 0 0) (get_or q 1 0) (get_or q 2 0) (get_or q 3 0)
+abbrev pub step_at : List ℕ → Step
+step_at q = step (get_or q 0 0) (get_or q 1 0) (get_or q 2 0) (get_or q 3 0)

@@ -23,28 +23,28 @@ steps (k ∷ h ∷ []) = []
 steps (k ∷ []) = []
 steps [] = []
 
-unfoldable pub stepWords : List Step → List ℕ
-stepWords [] = []
-stepWords (s ∷ ss) = s.kind ∷ s.handle ∷ s.mark ∷ s.number ∷ stepWords ss
+unfoldable pub step_words : List Step → List ℕ
+step_words [] = []
+step_words (s ∷ ss) = s.kind ∷ s.handle ∷ s.mark ∷ s.number ∷ step_words ss
 
 -- "handles u32"
-abbrev pub isHandle : ℕ → Bool
-isHandle h = leb h limit.name
+abbrev pub is_handle : ℕ → Bool
+is_handle h = leb h limit.name
 
 -- "Element 0 (argument; endless unknown 0, no 1, yes 2), Member 1 (id; offset present 0/1; offset, 0 when absent),
 -- Autodeslice 2 (mark 0 by view, 1 by pointer, 2 length), Autoderef 3, Autoview 4; unused words 0"
-unfoldable pub goodStep : Step → Bool
-goodStep s =
-    cond (eqb s.kind of-step.element) (isHandle s.handle && leb s.mark of-mark.yes && eqb s.number 0)
-    (cond (eqb s.kind of-step.member) (isHandle s.handle && leb s.mark of-mark.offset && (eqb s.mark of-mark.offset || eqb s.number 0))
-    (cond (eqb s.kind of-step.autodeslice) (eqb s.handle 0 && leb s.mark of-mark.byLength && eqb s.number 0)
+unfoldable pub good_step : Step → Bool
+good_step s =
+    cond (eqb s.kind of-step.element) (is_handle s.handle && leb s.mark of-mark.yes && eqb s.number 0)
+    (cond (eqb s.kind of-step.member) (is_handle s.handle && leb s.mark of-mark.offset && (eqb s.mark of-mark.offset || eqb s.number 0))
+    (cond (eqb s.kind of-step.autodeslice) (eqb s.handle 0 && leb s.mark of-mark.by_length && eqb s.number 0)
     (leb s.kind of-step.autoview && eqb s.handle 0 && eqb s.mark 0 && eqb s.number 0)))
 
-unfoldable pub goodSteps : List Step → Bool
-goodSteps [] = true
-goodSteps (s ∷ ss) = goodStep s && goodSteps ss
+unfoldable pub good_steps : List Step → Bool
+good_steps [] = true
+good_steps (s ∷ ss) = good_step s && good_steps ss
 
 -- "5 bad ... step, step count": of at most so many steps, how many they are.
-unfoldable pub stepsAnswer : ℕ → List ℕ → Answer ℕ
-stepsAnswer most ws =
-    cond (eqb (length ws % 4) 0 && leb (length ws / 4) most && goodSteps (steps ws)) (given (length ws / 4)) (refused refusal.badRequest 0)
+unfoldable pub steps_answer : ℕ → List ℕ → Answer ℕ
+steps_answer most ws =
+    cond (eqb (length ws % 4) 0 && leb (length ws / 4) most && good_steps (steps ws)) (given (length ws / 4)) (refused refusal.bad_request 0)

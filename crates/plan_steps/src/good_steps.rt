@@ -1,12 +1,12 @@
 ghost use Rattle.std.specs.Prelude.{◌≡◌};
-ghost use Rattle.type_layers.specs.Answer.{ofChecked};
-ghost use Rattle.plan_steps.specs.Steps.{step, goodStep, stepsAnswer};
+ghost use Rattle.type_layers.specs.Answer.{of_checked};
+ghost use Rattle.plan_steps.specs.Steps.{step, good_step, steps_answer};
 
 use type_layers::Checked;
 use type_numbers::{Limit, Mark, Refusal, StepKind};
 
 fn good_step(k: u64, h: u64, m: u64, n: u64) -> bool
-    ensures { result ≡ goodStep (step k h m n) }
+    ensures { result ≡ good_step (step k h m n) }
 {
     if k == StepKind::ELEMENT {
         return (h <= Limit::NAME) & (m <= Mark::YES) & (n == 0);
@@ -22,7 +22,7 @@ fn good_step(k: u64, h: u64, m: u64, n: u64) -> bool
 
 // Whether words are steps, and at most so many: their number.
 pub fn check_steps(ws: &[u64], most: u64) -> Checked
-    ensures { ofChecked result ≡ stepsAnswer most ws.now }
+    ensures { of_checked result ≡ steps_answer most ws.now }
 {
     let n = ws.len();
     let count = (n / 4) as u64;

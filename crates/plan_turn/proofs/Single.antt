@@ -3,7 +3,7 @@
 use mathlib.Core.Path.{◌≡◌, refl, sym, ap, ◌∙◌}
 use Rattle.type_layers.proofs.Single.{Single}
 use Rattle.plan_turn.specs.Turn.{Turn, Stuck, Auto, Element, Desliced, Member}
-use Rattle.plan_turn.specs.AsCoded.{ofTurn}
+use Rattle.plan_turn.specs.AsCoded.{of_turn}
 use Rattle.plan_turn.specs.declared.turn.Turn as code
 use Rattle.plan_turn.specs.declared.turn.Turn.TheVariants as coded
 use Rattle.plan_turn.proofs.decide_turn.turn_of.Kinds as turn-of-kinds
@@ -17,8 +17,8 @@ back (Element m l) = coded.Element m l
 back (Desliced m) = coded.Desliced m
 back Member = coded.Member
 
-is-back : (t : code.Turn) → t ≡ back (ofTurn t)
-unfolding ofTurn
+is-back : (t : code.Turn) → t ≡ back (of_turn t)
+unfolding of_turn
 is-back coded.Stuck = refl
 is-back (coded.Auto k) = refl
 is-back (coded.Element m l) = refl

@@ -1,5 +1,5 @@
 ghost use Rattle.std.specs.Prelude.{◌≡◌};
-ghost use Rattle.plan_turn.specs.AsCoded.{ofTurn};
+ghost use Rattle.plan_turn.specs.AsCoded.{of_turn};
 ghost use Rattle.plan_turn.specs.Round as rules;
 
 use crate::turn::Turn;
@@ -7,7 +7,7 @@ use type_numbers::{Kind, Mark, StepKind};
 
 // On a Pointer or a View, of the kind inside.
 fn on_reference(k: u64, l: u64, asked: u64, mark: u64) -> Turn
-    ensures { ofTurn result ≡ rules.onReference k l asked mark }
+    ensures { of_turn result ≡ rules.on_reference k l asked mark }
 {
     if (asked == StepKind::ELEMENT) & (l == Kind::ARRAYLIKE) {
         return Turn::Element { mark, layers: 2 };
@@ -21,7 +21,7 @@ fn on_reference(k: u64, l: u64, asked: u64, mark: u64) -> Turn
 
 // An Element on any other kind.
 fn on_element(k: u64) -> Turn
-    ensures { ofTurn result ≡ rules.onElement k }
+    ensures { of_turn result ≡ rules.on_element k }
 {
     if (k == Kind::ARRAY) | (k == Kind::ARRAY_WITH_NAMED_LENGTH) {
         return Turn::Element {
@@ -46,7 +46,7 @@ fn on_element(k: u64) -> Turn
 
 // A Member on any other kind.
 fn on_member(k: u64) -> Turn
-    ensures { ofTurn result ≡ rules.onMember k }
+    ensures { of_turn result ≡ rules.on_member k }
 {
     if (k == Kind::STRUCT) | (k == Kind::WORD) {
         Turn::Member
@@ -57,7 +57,7 @@ fn on_member(k: u64) -> Turn
 
 // One round's decision: k is the current type's outer kind and l the kind inside, of the asked step's kind and mark.
 pub fn turn_of(k: u64, l: u64, asked: u64, mark: u64) -> Turn
-    ensures { ofTurn result ≡ rules.turn k l asked mark }
+    ensures { of_turn result ≡ rules.turn k l asked mark }
 {
     if (k == Kind::POINTER) | (k == Kind::VIEW) {
         return on_reference(k, l, asked, mark);

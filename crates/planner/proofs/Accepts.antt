@@ -14,21 +14,21 @@ use Rattle.type_layers.specs.Answer.{given}
 use Rattle.type_layers.proofs.Spelling.{spelled-length, layers-spelled}
 use Rattle.write_words.specs.Written.{written}
 use Rattle.write_type.specs.Outcome as outcome
-use Rattle.write_type.specs.Outcome.{answer_in, bufferIn}
+use Rattle.write_type.specs.Outcome.{answer_in, buffer_in}
 use Rattle.symbol_columns.specs.declared.symbol.Symbol.{Symbol}
 use Rattle.write_answer.specs.declared.answer.Answer.{Answer}
-use Rattle.write_answer.specs.Flat.{accepted, notAccepted, flat}
-use Rattle.plan_steps.specs.Steps.{steps, stepsAnswer}
+use Rattle.write_answer.specs.Flat.{accepted, not_accepted, flat}
+use Rattle.plan_steps.specs.Steps.{steps, steps_answer}
 use Rattle.plan_steps.proofs.Words.{words-length}
 use Rattle.symbol_members.specs.Member.{Stored}
 use Rattle.walker_rule.specs.Walker.{at, arrives}
 use Rattle.symbol_members.specs.Members.{members}
-use Rattle.walker_run.specs.Walked.{walkTo}
+use Rattle.walker_run.specs.Walked.{walk_to}
 use Rattle.walker_run.proofs.Theorems.{arrives-walk}
 use Rattle.plan_report.specs.declared.report.Report.{Report}
 use Rattle.plan_report.specs.Plan.{Plan}
-use Rattle.plan_report.specs.Report.{Delivers, planRead}
-use Rattle.planner.specs.Plans.{planAnswer}
+use Rattle.plan_report.specs.Report.{Delivers, plan_read}
+use Rattle.planner.specs.Plans.{plan_answer}
 use Rattle.planner.specs.Demand.{Hidden, Demand}
 use Rattle.planner.specs.Accepts.{Agrees, Accepts}
 use Rattle.planner.proofs.Arrives.{few-in-all, arrives-few}
@@ -36,13 +36,13 @@ use Rattle.planner.proofs.Carried.{Given, front, members-pass, known-passing, st
 use Rattle.planner.proofs.Excluded.{exception-shows}
 
 module _ (table : List Symbol) (store known asked target : List ℕ) (depth limit : ℕ) (r : Report) (b b' c c' : List ℕ)
-    (h : Delivers (planAnswer table store known asked target depth limit) r b b' c c')
+    (h : Delivers (plan_answer table store known asked target depth limit) r b b' c c')
     (z : r.refusal ≡ 0) where
   abbrev stored : ℕ → Stored
   stored = members table store
 
   abbrev plan : Plan
-  plan = planRead r b' c'
+  plan = plan_read r b' c'
 
   abbrev pub exception : Type 0
   exception = Hidden stored (layers known) (layers target) depth plan
@@ -80,20 +80,20 @@ module _ (table : List Symbol) (store known asked target : List ℕ) (depth limi
       few-in-all stored (λ id. members-pass table store id ok.order) (layers known) (known-passing table store known asked target depth limit ok) (steps asked)
       ok.asked-good (layers target) depth limit plan ok.plan
 
-  steps-pass : stepsAnswer 128 ws ≡ given (length ws / 4)
-  unfolding stepsAnswer
+  steps-pass : steps_answer 128 ws ≡ given (length ws / 4)
+  unfolding steps_answer
   steps-pass =
       let whole : length ws % 4 ≡ 0 = omega (arith, ws-length) in
       let few : length ws / 4 ≤ 128 = omega (arith, ws-length, ws-few, ok.rounds-few, ok.asked-few) in
       rw (eq-eqb (length ws % 4) 0 whole, le-leb (length ws / 4) 128 few, meets.good) refl
 
-  walks : walkTo known ws r.address table store ≡ given u
+  walks : walk_to known ws r.address table store ≡ given u
   walks = arrives-walk known ws store r.address table u (length known / 3) (length ws / 4) ok.known-passes steps-pass ok.order reached.1.0
 
   -- the walker's answer and its output
   module _ (a : Answer) (out out' : List ℕ)
-      (k : (a ≡ flat (answer_in out (walkTo known ws r.address table store))) × (out' ≡ bufferIn out (walkTo known ws r.address table store))) where
-    short : length out < length (spelled u) → a ≡ notAccepted 14 0
+      (k : (a ≡ flat (answer_in out (walk_to known ws r.address table store))) × (out' ≡ buffer_in out (walk_to known ws r.address table store))) where
+    short : length out < length (spelled u) → a ≡ not_accepted 14 0
     unfolding outcome.delivered outcome.told flat
     short i = k.0 ∙ rw (walks, le-ltb 16 (length u) u-few, lt-ltb (length out) (length (spelled u)) i) refl
 

@@ -14,23 +14,23 @@ use Rattle.type_numbers.specs.Kind as kind
 use Rattle.type_layers.specs.Layers.{Layer, outer, inside}
 use Rattle.type_layers.specs.Answer.{given}
 use Rattle.type_layers.proofs.Decide.{both}
-use Rattle.type_checks.specs.Check.{goodLayer}
-use Rattle.type_checks.proofs.Accepted.{goodLayers}
-use Rattle.type_wellformed.specs.WellFormed.{wellFormed}
+use Rattle.type_checks.specs.Check.{good_layer}
+use Rattle.type_checks.proofs.Accepted.{good_layers}
+use Rattle.type_wellformed.specs.WellFormed.{well_formed}
 use Rattle.relation_equals.specs.Equals.{identical}
 use Rattle.relation_equals.proofs.Theorems.{identical-equal}
-use Rattle.plan_steps.specs.Steps.{Step, goodSteps}
+use Rattle.plan_steps.specs.Steps.{Step, good_steps}
 use Rattle.plan_steps.proofs.Words.{good-append}
 use Rattle.plan_settling.specs.Settling.{Settled, pointer, settle}
 use Rattle.plan_settling.proofs.Lines.{lines}
 use Rattle.symbol_members.specs.Member.{Stored, typed}
 use Rattle.walker_rule.specs.Walker.{at, walker, arrives}
 use Rattle.walker_rule.proofs.Where.{at-is}
-use Rattle.plan_rounds.specs.Rounds.{ended, inRounds}
+use Rattle.plan_rounds.specs.Rounds.{ended, in_rounds}
 use Rattle.plan_rounds.proofs.Finishing.{depth-few}
 use Rattle.plan_report.specs.Plan.{Plan}
 use Rattle.planner.specs.Plans.{plan_of}
-use Rattle.planner.specs.Demand.{ofRounds, Exception, Hidden, Demand}
+use Rattle.planner.specs.Demand.{of_rounds, Exception, Hidden, Demand}
 use Rattle.planner.specs.Reported.{Reported}
 use Rattle.planner.proofs.Rounds.{asked-append, walker-append, walks, in_order, ends_there, no_more, all-good, few-steps}
 use Rattle.planner.proofs.Sound.{Passing, Sound, rounds-sound}
@@ -38,8 +38,8 @@ use Rattle.planner.proofs.Settles.{Unstepped, exact, settles, must-hide, asks_no
 use Rattle.planner.proofs.Plans.{planned, every-plan}
 
 module _ (stored : ℕ → Stored) (members : (id : ℕ) (t : List Layer) → stored id ≡ typed t → Passing t)
-    (known : List Layer) (passing : Passing known) (q : List Step) (good : goodSteps q ≡ true) (target : List Layer) (depth limit : ℕ) where
-  module _ (formed : wellFormed known ≡ true) (ss : List Step) (k : ℕ) (c : List Layer) (e : inRounds stored limit known q ≡ ended ss k c) (all : length q ≤ k) where
+    (known : List Layer) (passing : Passing known) (q : List Step) (good : good_steps q ≡ true) (target : List Layer) (depth limit : ℕ) where
+  module _ (formed : well_formed known ≡ true) (ss : List Step) (k : ℕ) (c : List Layer) (e : in_rounds stored limit known q ≡ ended ss k c) (all : length q ≤ k) where
     sound : Sound c
     sound = rounds-sound stored members limit known q ss k c e (record { formed = formed; passing = passing })
 
@@ -56,7 +56,7 @@ module _ (stored : ℕ → Stored) (members : (id : ℕ) (t : List Layer) → st
       }
 
       -- the rounds end on one type, with the last asked step
-      excepted : Exception stored known target depth (ofRounds (ss ++ s.steps) q) → Hidden stored known target depth (planned ss k s)
+      excepted : Exception stored known target depth (of_rounds (ss ++ s.steps) q) → Hidden stored known target depth (planned ss k s)
       excepted x =
           let ends : walker stored ss known ≡ at x.c = rw (ends_there stored limit known q ss k c e all s.steps) at x.ends in
           let is : x.c ≡ c = at-is x.c c (sym ends ∙ walks stored limit known q ss k c e) in
@@ -107,12 +107,12 @@ module _ (stored : ℕ → Stored) (members : (id : ℕ) (t : List Layer) → st
       (λ formed _ ss k c e all s f w. narrow formed ss k c e all s f w)
 
 -- what is reported
-module _ (target : List Layer) (good : goodLayers target ≡ true) where
-  points : (c t : List Layer) → goodLayers t ≡ true → eqb (outer t) kind.pointer ≡ true → identical (inside t) c ≡ true → pointer ∷ c ≡ t
-  unfolding outer inside goodLayers
+module _ (target : List Layer) (good : good_layers target ≡ true) where
+  points : (c t : List Layer) → good_layers t ≡ true → eqb (outer t) kind.pointer ≡ true → identical (inside t) c ≡ true → pointer ∷ c ≡ t
+  unfolding outer inside good_layers
   points c [] g e f = absurd (false≢true e)
   points c (x ∷ a) g e f =
-      rw (exact x (both (goodLayer x) (goodLayers a) g).0 (eqb-true x.kind kind.pointer e), identical-equal a c f) refl
+      rw (exact x (both (good_layer x) (good_layers a) g).0 (eqb-true x.kind kind.pointer e), identical-equal a c f) refl
 
   module _ (stored : ℕ → Stored) (known : List Layer) (q : List Step) (depth limit : ℕ) where
     reports : (ss : List Step) (k : ℕ) (c : List Layer) → walker stored ss known ≡ at c → (s : Settled) → settle c target depth ≡ given s →
@@ -122,7 +122,7 @@ module _ (target : List Layer) (good : goodLayers target ≡ true) where
         (λ e. inr (inl (record { c = c; ends = rw append-nil w; coerced = refl; into = inl (e, refl, refl) })))
         (λ e f. inl (points c target good e f, refl))
         (λ e. inr (inl (record { c = c; ends = rw append-nil w; coerced = refl; into = inr (e, refl, refl) })))
-        (λ is s g. inr (inr (record { ofRounds = ss; further = s.steps; steps = refl; c = c; ends = w; applies = is; gives = g }))) s f
+        (λ is s g. inr (inr (record { of_rounds = ss; further = s.steps; steps = refl; c = c; ends = w; applies = is; gives = g }))) s f
 
     pub reported : (plan : Plan) → plan_of stored known q target depth limit ≡ given plan → Reported stored known target depth plan
     reported =

@@ -13,21 +13,21 @@ use Rattle.type_numbers.specs.Kind as kind
 use Rattle.type_layers.specs.Layers.{Layer, layer, outer, inside}
 use Rattle.type_layers.specs.Answer.{given}
 use Rattle.type_parts.specs.Parts.{references}
-use Rattle.type_size_and_depth.specs.Depth.{pointerDepth}
+use Rattle.type_size_and_depth.specs.Depth.{pointer_depth}
 use Rattle.relation_equals.specs.Equals.{identical, plain, equals}
-use Rattle.relation_coerces.specs.Coerces.{coerces, addressCoerces}
+use Rattle.relation_coerces.specs.Coerces.{coerces, address_coerces}
 use Rattle.type_numbers.specs.StepKind as of-step
 use Rattle.type_numbers.specs.Mark as of-mark
-use Rattle.plan_steps.specs.Steps.{Step, step, goodStep, goodSteps}
+use Rattle.plan_steps.specs.Steps.{Step, step, good_step, good_steps}
 use Rattle.plan_settling.specs.Line as line
 use Rattle.plan_settling.specs.Line.{Line}
-use Rattle.plan_settling.specs.Settling.{Settled, settleOtherwise, line_of}
+use Rattle.plan_settling.specs.Settling.{Settled, settle_otherwise, line_of}
 use Rattle.plan_settling.proofs.Lines.{seventh}
 use Rattle.symbol_members.specs.Member.{Stored, typed, absent}
 use Rattle.walker_rule.specs.Walker.{Where, at, stuck, act, walker, arrives}
 use Rattle.walker_rule.proofs.Where.{type_at}
 use Rattle.plan_report.specs.Plan.{Plan}
-use Rattle.planner.specs.Demand.{asked, ofRounds, Hidden, Demand}
+use Rattle.planner.specs.Demand.{asked, of_rounds, Hidden, Demand}
 use Rattle.planner.specs.Reported.{Reported}
 use Rattle.planner.proofs.Table.{leaf, of, int32, array3, asked-element}
 
@@ -50,13 +50,13 @@ element handle number = step of-step.element handle of-mark.no number
 abbrev autoderef : Step
 autoderef = step of-step.autoderef 0 0 0
 
-abbrev firstHandle : List Step → ℕ
-firstHandle [] = 0
-firstHandle (s ∷ ss) = s.handle
+abbrev first_handle : List Step → ℕ
+first_handle [] = 0
+first_handle (s ∷ ss) = s.handle
 
-abbrev firstMark : List Step → ℕ
-firstMark [] = 0
-firstMark (s ∷ ss) = s.mark
+abbrev first_mark : List Step → ℕ
+first_mark [] = 0
+first_mark (s ∷ ss) = s.mark
 
 abbrev is_last : Line → Bool
 is_last line.i = false
@@ -91,7 +91,7 @@ one-for-two d = absurd (omega (arith, ap length d.order))
 -- the same question: both Elements, the second one first
 pub out_of_order : Demand none (array 3 array3) (asked-element 7 ∷ asked-element 8 ∷ []) int32 0 (plan (element 8 0 ∷ element 7 0 ∷ []) 2 int32 false) → ⊥
 unfolding asked
-out_of_order d = absurd (omega (arith, ap firstHandle d.order))
+out_of_order d = absurd (omega (arith, ap first_handle d.order))
 
 -- the same question: a third Element that nobody asked for
 pub one-too-many : Demand none (array 3 (array 3 array3)) (asked-element 7 ∷ asked-element 8 ∷ []) array3 0
@@ -106,16 +106,16 @@ made_up d = absurd (omega (arith, d.all))
 -- the same question: the Element of another argument
 pub other-element : Demand none array3 (asked-element 7 ∷ []) int32 0 (plan (element 8 0 ∷ []) 1 int32 false) → ⊥
 unfolding asked
-other-element d = absurd (omega (arith, ap firstHandle d.order))
+other-element d = absurd (omega (arith, ap first_handle d.order))
 
 -- Struct 1, the Member 5 without an offset: the same Member with an offset that nobody asked for
 pub other_offset : Demand (λ id. typed int32) (struct1 ∷ []) (step of-step.member 5 0 0 ∷ []) int32 0 (plan (step of-step.member 5 1 8 ∷ []) 1 int32 false) → ⊥
 unfolding asked
-other_offset d = absurd (omega (arith, ap firstMark d.order))
+other_offset d = absurd (omega (arith, ap first_mark d.order))
 
 -- the first question again: an Element whose unused number is not 0
 pub unused-number : Demand none array3 (asked-element 7 ∷ []) int32 0 (plan (element 7 5 ∷ []) 1 int32 false) → ⊥
-unfolding goodStep goodSteps
+unfolding good_step good_steps
 unused-number d = false≢true d.good
 
 -- Pointer to Pointer to Int32, target Int32: a planner that works its first step and then copies the reported type
@@ -138,7 +138,7 @@ cannot-be-taken d =
 
 -- View of Int32, target Int32: a plan that stops one step early; line (ii) applies, so it is no exception
 pub one-step-early : Demand none (of kind.view int32) [] int32 0 (plan [] 0 int32 false) → ⊥
-unfolding walker arrives line_of outer inside pointerDepth identical
+unfolding walker arrives line_of outer inside pointer_depth identical
 one-step-early d =
     ⊎_elim (apart (of kind.view int32) int32 (λ e. absurd (omega (arith, e))))
     (λ h. false≢true (ap (λ (w : Where). is_last (line_of (type_at w) int32 0)) h.holds.ends ∙ ap is_last h.holds.last)) d.there
@@ -160,7 +160,7 @@ half-dereferenced d =
 
 -- the same question: a plan that reports the View itself
 pub view-as-it-is : Demand none (of kind.view (of kind.pointer int32)) [] int32 0 (plan [] 0 (of kind.view (of kind.pointer int32)) false) → ⊥
-unfolding walker ofRounds references line_of outer inside pointerDepth identical coerces addressCoerces equals plain
+unfolding walker of_rounds references line_of outer inside pointer_depth identical coerces address_coerces equals plain
 view-as-it-is d =
     let known : List Layer = of kind.view (of kind.pointer int32) in
     let h = d.except (record { c = known; ends = refl; level = refl; view = refl; last = refl }) in
@@ -170,7 +170,7 @@ view-as-it-is d =
 -- where the exception has none behind the last asked step
 pub not_hidden : Demand (λ id. typed (of kind.view (of kind.pointer int32))) (struct1 ∷ []) (step of-step.member 5 0 0 ∷ []) int32 0
     (plan (step of-step.member 5 0 0 ∷ step of-step.autoview 0 0 0 ∷ autoderef ∷ []) 1 int32 false) → ⊥
-unfolding walker act ofRounds line_of outer inside pointerDepth identical coerces addressCoerces equals plain
+unfolding walker act of_rounds line_of outer inside pointer_depth identical coerces address_coerces equals plain
 not_hidden d =
     let h = d.except (record { c = of kind.view (of kind.pointer int32); ends = refl; level = refl; view = refl; last = refl }) in
     absurd (omega (arith, ap (λ (w : Where). outer (type_at w)) h.holds.ends, h.holds.view))
@@ -183,30 +183,30 @@ address-in-name d =
     (λ h. true≢false h.plain) d.there
 
 -- what line (vii) gives is not coerced
-last-not-coerced : (c : List Layer) (n : ℕ) (s : Settled) → settleOtherwise c n (pointerDepth c) ≡ given s → s.coerced ≡ false
+last-not-coerced : (c : List Layer) (n : ℕ) (s : Settled) → settle_otherwise c n (pointer_depth c) ≡ given s → s.coerced ≡ false
 last-not-coerced c n = seventh c n (λ s. s.coerced ≡ false) (λ e. refl) (λ few slice. refl)
 
 -- Int32 for the target Int64: a plan that says that it is coerced
 pub coerced-in-name : Reported none int32 (leaf kind.int64) 0 (record { steps = []; taken = 0; type = int32; address = false; coerced = true }) → ⊥
-unfolding walker coerces addressCoerces outer
+unfolding walker coerces address_coerces outer
 coerced-in-name r =
     ⊎_elim (λ h. true≢false h.1)
     (λ r.
     ⊎_elim
     (λ h.
     ⊎_elim (λ i. false≢true (ap (λ (w : Where). coerces (type_at w) (leaf kind.int64)) h.ends ∙ i.0))
-    (λ i. false≢true (ap (λ (w : Where). addressCoerces (type_at w) (leaf kind.int64)) h.ends ∙ i.0)) h.into)
+    (λ i. false≢true (ap (λ (w : Where). address_coerces (type_at w) (leaf kind.int64)) h.ends ∙ i.0)) h.into)
     (λ h. true≢false (last-not-coerced h.c 0 _ h.gives)) r) r
 
 -- Array 3 of Int32 for the target Slice of Int32, which is coerced: a plan that does not say so
 pub coercion-untold : Reported none array3 (of kind.slice int32) 0 (plan [] 0 array3 false) → ⊥
-unfolding walker line_of outer inside pointerDepth identical coerces equals plain
+unfolding walker line_of outer inside pointer_depth identical coerces equals plain
 coercion-untold r =
     ⊎_elim (λ h. absurd (omega (arith, ap outer h.0)))
     (λ r.
     ⊎_elim (λ h. false≢true h.coerced)
     (λ h.
-    let ends : at array3 ≡ at h.c = rw (none_before h.ofRounds h.further h.steps) at h.ends in
+    let ends : at array3 ≡ at h.c = rw (none_before h.of_rounds h.further h.steps) at h.ends in
     false≢true (ap (λ (w : Where). is_last (line_of (type_at w) (of kind.slice int32) 0)) ends ∙ ap is_last h.applies)) r) r
 
 -- the exception shows: of such a plan the walker does not arrive at the reported type

@@ -8,15 +8,15 @@ use Rattle.type_numbers.specs.Kind as kind
 use Rattle.type_layers.specs.Layers.{Layer, layer, outer, inside}
 use Rattle.type_layers.specs.Answer.{refused}
 use Rattle.type_parts.specs.Parts.{references}
-use Rattle.type_size_and_depth.specs.Depth.{pointerDepth}
-use Rattle.type_wellformed.specs.WellFormed.{inner, element, wellFormed}
+use Rattle.type_size_and_depth.specs.Depth.{pointer_depth}
+use Rattle.type_wellformed.specs.WellFormed.{inner, element, well_formed}
 use Rattle.relation_equals.specs.Equals.{identical, plain, equals}
-use Rattle.relation_coerces.specs.Coerces.{coerces, addressCoerces, viewAutoderefs, autoderefs}
+use Rattle.relation_coerces.specs.Coerces.{coerces, address_coerces, view_autoderefs, autoderefs}
 use Rattle.plan_turn.specs.Round.{turn}
 use Rattle.type_numbers.specs.StepKind as of-step
 use Rattle.plan_steps.specs.Steps.{step}
-use Rattle.plan_settling.specs.Settling.{pointer, settleOtherwise, line_of, settleBy, settle}
-use Rattle.plan_rounds.specs.Rounds.{inRounds}
+use Rattle.plan_settling.specs.Settling.{pointer, settle_otherwise, line_of, settle_by, settle}
+use Rattle.plan_rounds.specs.Rounds.{in_rounds}
 use Rattle.symbol_members.specs.Member.{typed, absent}
 use Rattle.walker_rule.specs.Walker.{walker}
 use Rattle.planner.specs.Plans.{plan_of}
@@ -26,7 +26,7 @@ use Rattle.planner.proofs.Table.{leaf, of, int32, plan, planned}
 pub record Surprises : Type 0 where
   -- the address of (vii) can make an ill-formed type
   pub void-at-depth-1 : planned (leaf kind.void) [] int32 1 64 ≡ plan [] 0 (of kind.pointer (leaf kind.void)) true false
-  pub pointer-to-void : wellFormed (of kind.pointer (leaf kind.void)) ≡ false
+  pub pointer-to-void : well_formed (of kind.pointer (leaf kind.void)) ≡ false
   -- the third demand's exception can hide more than one step: no step is planned, and a View and a Pointer are gone
   pub two-hidden : planned (of kind.view (of kind.pointer int32)) [] (of kind.pointer int32) 0 64 ≡ plan [] 0 int32 false false
   -- it can hide them and report the target itself: comparing the reported type with the target then tells nothing
@@ -34,10 +34,10 @@ pub record Surprises : Type 0 where
   -- so a type that autoderefs into the target need not be planned to arrive there
   pub autoderefs-there : autoderefs (of kind.view (of kind.pointer int32)) (of kind.pointer int32) ≡ true
   -- a SlicePointer at depth 0 has no settling, not even for itself
-  pub slice-pointer-for-itself : planned (of kind.slicePointer int32) [] (of kind.slicePointer int32) 0 64 ≡ refused 10 0
+  pub slice-pointer-for-itself : planned (of kind.slice_pointer int32) [] (of kind.slice_pointer int32) 0 64 ≡ refused 10 0
 
 pub surprises : Surprises
-unfolding outer inside references pointerDepth inner element wellFormed identical plain equals coerces addressCoerces viewAutoderefs autoderefs turn settleOtherwise line_of settleBy settle inRounds plan_of
+unfolding outer inside references pointer_depth inner element well_formed identical plain equals coerces address_coerces view_autoderefs autoderefs turn settle_otherwise line_of settle_by settle in_rounds plan_of
 surprises = record {
   void-at-depth-1 = refl;
   pointer-to-void = refl;
@@ -50,7 +50,7 @@ surprises = record {
 -- of this plan the exception holds
 pub the-exception : Hidden (λ id. absent) (of kind.view (of kind.pointer int32)) int32 0
     (record { steps = []; taken = 0; type = int32; address = false; coerced = false })
-unfolding walker line_of outer inside references pointerDepth identical plain equals coerces addressCoerces
+unfolding walker line_of outer inside references pointer_depth identical plain equals coerces address_coerces
 the-exception =
     record {
       holds = record { c = of kind.view (of kind.pointer int32); ends = refl; level = refl; view = refl; last = refl };
@@ -64,5 +64,5 @@ abbrev deep : List Layer
 deep = replicate 15 pointer ++ (layer kind.struct 1 0 ∷ [])
 
 pub sixty-four-rounds : plan_of (λ id. typed deep) deep (replicate 5 (step of-step.member 7 0 0)) (layer kind.struct 1 0 ∷ []) 0 64 ≡ refused 18 4
-unfolding outer inside references pointerDepth inner element wellFormed identical plain equals coerces addressCoerces turn settleOtherwise line_of settleBy settle inRounds plan_of
+unfolding outer inside references pointer_depth inner element well_formed identical plain equals coerces address_coerces turn settle_otherwise line_of settle_by settle in_rounds plan_of
 sixty-four-rounds = refl

@@ -15,6 +15,6 @@ pub record Accepts (exception : Type 0) (r : Report) (ty : List ℕ) (a : Answer
   -- where there is room for the reported type, the answer is that type, or the exception holds
   pub answers : 3 * r.layers ≤ room → Agrees r ty a out ⊎ exception
   -- no refusal but 14, and that for want of room alone: 48 words are enough
-  pub only : (a.refusal ≡ 0) ⊎ ((a.refusal ≡ refusal.outputTooShort) × (room < limit.typeWords))
+  pub only : (a.refusal ≡ 0) ⊎ ((a.refusal ≡ refusal.output_too_short) × (room < limit.type_words))
   -- the exception can be seen: where it holds, the comparison fails
   pub shows : exception → Agrees r ty a out → ⊥

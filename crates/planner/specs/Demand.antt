@@ -5,7 +5,7 @@ use Rattle.type_numbers.specs.Kind as kind
 use Rattle.type_layers.specs.Layers.{Layer, outer}
 use Rattle.type_parts.specs.Parts.{references}
 use Rattle.type_numbers.specs.StepKind as of-step
-use Rattle.plan_steps.specs.Steps.{Step, step, goodSteps}
+use Rattle.plan_steps.specs.Steps.{Step, step, good_steps}
 use Rattle.plan_settling.specs.Line as line
 use Rattle.plan_settling.specs.Settling.{line_of}
 use Rattle.symbol_members.specs.Member.{Stored}
@@ -23,10 +23,10 @@ asked (s ∷ ss) = cond (leb s.kind of-step.member) (unmarked s ∷ asked ss) (a
 
 -- "leaving the walk as soon as no asked step is left": the steps of the rounds are those up to the last asked one. An element
 -- or member step takes the first of those that are asked.
-unfoldable pub ofRounds : List Step → List Step → List Step
-ofRounds [] q = []
-ofRounds (s ∷ ss) [] = []
-ofRounds (s ∷ ss) (a ∷ q) = s ∷ ofRounds ss (cond (leb s.kind of-step.member) q (a ∷ q))
+unfoldable pub of_rounds : List Step → List Step → List Step
+of_rounds [] q = []
+of_rounds (s ∷ ss) [] = []
+of_rounds (s ∷ ss) (a ∷ q) = s ∷ of_rounds ss (cond (leb s.kind of-step.member) q (a ∷ q))
 
 -- "One exception: at address depth 0, when the walk ends on a view and only the last settling rule applies,": the walker
 -- takes the steps to c.
@@ -52,9 +52,9 @@ pub record Demand (stored : ℕ → Stored) (known : List Layer) (q : List Step)
   -- The count that is told is the number asked.
   pub all : plan.taken ≡ length q
   -- Each step is one: its marks are marks, and its unused words are 0.
-  pub good : goodSteps plan.steps ≡ true
+  pub good : good_steps plan.steps ≡ true
   -- "A plain walker, knowing only what one step does to a type, takes the plan's steps from the known type, then the address
   -- if flagged, and arrives at exactly the reported type."
   pub there : (arrives stored plan.steps plan.address known ≡ at plan.type) ⊎ Hidden stored known target depth plan
   -- Where the exception applies, the plan reports what it says.
-  pub except : Exception stored known target depth (ofRounds plan.steps q) → Hidden stored known target depth plan
+  pub except : Exception stored known target depth (of_rounds plan.steps q) → Hidden stored known target depth plan

@@ -19,7 +19,7 @@ pub fn autoderef<'a>(
     ty: &mut [u64],
 ) -> Report
     ensures { report.Delivers
-        (answers.planAnswer table.now store.now
+        (answers.plan_answer table.now store.now
         known.now asked.now target.now level rounds)
         result steps.old steps.new ty.old ty.new }
 {

@@ -1,8 +1,8 @@
 ghost use Rattle.std.specs.Prelude.{◌≡◌, ◌≤◌};
 ghost use Rattle.type_numbers.specs.Limit as limit;
-ghost use Rattle.type_layers.specs.Answer.{ofChecked};
+ghost use Rattle.type_layers.specs.Answer.{of_checked};
 ghost use Rattle.type_layers.specs.AsCoded.{Whole};
-ghost use Rattle.symbol_columns.specs.AsCoded.{readFrom};
+ghost use Rattle.symbol_columns.specs.AsCoded.{read_from};
 ghost use Rattle.plan_report.specs.Report as report;
 ghost use Rattle.planner.specs.Plans as answers;
 
@@ -17,7 +17,7 @@ use type_numbers::{Limit, Refusal};
 use type_wellformed::is_wellformed;
 
 fn check_limits(asked: &[u64], rounds: u64) -> Checked
-    ensures { ofChecked result ≡ answers.limits asked.now rounds }
+    ensures { of_checked result ≡ answers.limits asked.now rounds }
 {
     if rounds > Limit::ROUNDS {
         return Checked::Refused {
@@ -30,7 +30,7 @@ fn check_limits(asked: &[u64], rounds: u64) -> Checked
 
 // The checks of the types, the asked steps and the rounds.
 fn check_question(known: &[u64], asked: &[u64], target: &[u64], rounds: u64) -> Checked
-    ensures { ofChecked result ≡ answers.question known.now asked.now target.now rounds }
+    ensures { of_checked result ≡ answers.question known.now asked.now target.now rounds }
 {
     match check_type(known) {
         Checked::Refused { number, place } => Checked::Refused { number, place },
@@ -56,7 +56,7 @@ fn plan_checked<'a>(
 ) -> Report
     requires { Whole known.now × Whole target.now × (rounds ≤ limit.rounds) }
     ensures { report.Delivers
-        (answers.planned (readFrom flat.now 0 count) store.now
+        (answers.planned (read_from flat.now 0 count) store.now
         known.now asked.now target.now level rounds)
         result steps.old steps.new ty.old ty.new }
 {
@@ -97,7 +97,7 @@ pub fn plan_among<'a>(
     ty: &mut [u64],
 ) -> Report
     ensures { report.Delivers
-        (answers.planAnswer (readFrom flat.now 0 count) store.now
+        (answers.plan_answer (read_from flat.now 0 count) store.now
         known.now asked.now target.now level rounds)
         result steps.old steps.new ty.old ty.new }
 {

@@ -8,12 +8,12 @@ use lib.Dec.{eqb}
 use lib.ListN.{length, get_or}
 use borrow.Author.Tests.{eq-eqb, ne_eqb, not-true, not-false}
 use Rattle.type_numbers.specs.Kind as kind
-use Rattle.type_layers.specs.Layers.{Layer, layers, outer, inside, innerWords, isReference}
+use Rattle.type_layers.specs.Layers.{Layer, layers, outer, inside, inner_words, is_reference}
 use Rattle.type_layers.specs.AsCoded.{head}
 use Rattle.type_layers.proofs.Words.{rest, none, more, inner-layers}
 use Rattle.relation_equals.specs.Equals.{equals}
-use Rattle.relation_coerces.specs.Coerces.{coerces, addressCoerces, subautoderefs, isArrayOrStruct, viewAutoderefs, pointerAutoderefs, autoderefs}
-use Rattle.relation_coerces.specs.AsCoded.{mayEqual}
+use Rattle.relation_coerces.specs.Coerces.{coerces, address_coerces, subautoderefs, is_array_or_struct, view_autoderefs, pointer_autoderefs, autoderefs}
+use Rattle.relation_coerces.specs.AsCoded.{may_equal}
 use Rattle.relation_coerces.proofs.OnePass.{apart, one_line}
 
 -- "or", where the code holds the first test's outcome
@@ -29,7 +29,7 @@ module _ (a b : List ℕ) where
   unfolding subautoderefs
   sub-none h = rw (none a)
 
-  module _ (h : 3 ≤ length a) (t : Bool) (e : t ≡ isReference (get_or a 0 0)) where
+  module _ (h : 3 ≤ length a) (t : Bool) (e : t ≡ is_reference (get_or a 0 0)) where
     pub sub-other : not t ≡ true → false ≡ subautoderefs (layers a) (layers b)
     unfolding subautoderefs
     sub-other q = rw (more a, ← e, not-true t q)
@@ -45,7 +45,7 @@ module _ (a b : List ℕ) where
             (cond (equals (layers (rest a)) (layers b)) true (subautoderefs (layers (rest a)) (layers b)))
         line = rw (more a, one_line (head a) (layers (rest a)) (layers b), ← e, not-false t q, ← w)
 
-        pub sub_held : k ≡ get_or a 0 0 → (c : List ℕ) (r : Bool) → c ≡ innerWords b → r ≡ subautoderefs (layers (rest a)) (layers c) →
+        pub sub_held : k ≡ get_or a 0 0 → (c : List ℕ) (r : Bool) → c ≡ inner_words b → r ≡ subautoderefs (layers (rest a)) (layers c) →
             r ≡ subautoderefs (layers a) (layers b)
         sub_held u c r j z = rw (line, eq-eqb k (get_or a 0 0) u, ← inner-layers b, ← j) z
 
@@ -53,7 +53,7 @@ module _ (a b : List ℕ) where
           pub sub-inside : (f : Bool) → f ≡ equals (layers (rest a)) (layers b) → f ≡ false → r ≡ subautoderefs (layers a) (layers b)
           sub-inside f p g = rw (line, ne_eqb k (get_or a 0 0) u, ← p, g) z
 
-          pub sub-apart : (j : ℕ) (f : Bool) → j ≡ outer (layers (rest a)) → f ≡ mayEqual j k → f ≡ false → r ≡ subautoderefs (layers a) (layers b)
+          pub sub-apart : (j : ℕ) (f : Bool) → j ≡ outer (layers (rest a)) → f ≡ may_equal j k → f ≡ false → r ≡ subautoderefs (layers a) (layers b)
           sub-apart j f o p g = rw (line, ne_eqb k (get_or a 0 0) u, apart (layers (rest a)) (layers b) (rw (← o, ← w, ← p) g)) z
 
 -- the lines that autoderefs has for a View and a Pointer are "a equals b", here u, and those of sub-autoderefs
@@ -61,7 +61,7 @@ grouped : (u v w z : Bool) → (u || (v || w || z)) ≡ (u || v || w || z)
 grouped true v w z = refl
 grouped false v w z = refl
 
-lines : (k : ℕ) (a b : List Layer) (u : Bool) → outer a ≡ k → isReference k ≡ true →
+lines : (k : ℕ) (a b : List Layer) (u : Bool) → outer a ≡ k → is_reference k ≡ true →
     (u || equals (inside a) b || subautoderefs (inside a) b || eqb (outer b) k && subautoderefs (inside a) (inside b))
     ≡ (u || subautoderefs a b)
 unfolding outer inside subautoderefs
@@ -69,7 +69,7 @@ lines k [] b u e t = absurd (false≢true (rw (← e) at t))
 lines k (x ∷ d) b u e t = rw (e, t) (sym (grouped u _ _ _))
 
 -- k is the outer kind of a
-module _ (a b : List ℕ) (k : ℕ) (f : Bool) (p : k ≡ outer (layers a)) (e : f ≡ isArrayOrStruct k) where
+module _ (a b : List ℕ) (k : ℕ) (f : Bool) (p : k ≡ outer (layers a)) (e : f ≡ is_array_or_struct k) where
   pub auto-array : (r : Bool) → f ≡ true → r ≡ (equals (layers a) (layers b) || coerces (layers a) (layers b)) →
       r ≡ autoderefs (layers a) (layers b)
   unfolding autoderefs
@@ -78,12 +78,12 @@ module _ (a b : List ℕ) (k : ℕ) (f : Bool) (p : k ≡ outer (layers a)) (e :
   module _ (n : f ≡ false) where
     pub auto-view : (r : Bool) → k ≡ kind.view → r ≡ (equals (layers a) (layers b) || subautoderefs (layers a) (layers b)) →
         r ≡ autoderefs (layers a) (layers b)
-    unfolding autoderefs viewAutoderefs
+    unfolding autoderefs view_autoderefs
     auto-view r t s = rw (← p, ← e, n, t, lines kind.view (layers a) (layers b) (equals (layers a) (layers b)) (sym p ∙ t) refl) s
 
     module _ (t : k ≡ kind.pointer) (g : Bool) (q : g ≡ equals (layers a) (layers b)) where
-      pointer-lines : autoderefs (layers a) (layers b) ≡ (g || subautoderefs (layers a) (layers b) || addressCoerces (inside (layers a)) (layers b))
-      unfolding autoderefs pointerAutoderefs
+      pointer-lines : autoderefs (layers a) (layers b) ≡ (g || subautoderefs (layers a) (layers b) || address_coerces (inside (layers a)) (layers b))
+      unfolding autoderefs pointer_autoderefs
       pointer-lines = rw (← p, ← e, n, t, lines kind.pointer (layers a) (layers b) (equals (layers a) (layers b)) (sym p ∙ t) refl, ← q)
 
       pub auto-equal : g ≡ true → true ≡ autoderefs (layers a) (layers b)
@@ -93,7 +93,7 @@ module _ (a b : List ℕ) (k : ℕ) (f : Bool) (p : k ≡ outer (layers a)) (e :
         pub auto-inside : h ≡ true → true ≡ autoderefs (layers a) (layers b)
         auto-inside v = rw (pointer-lines, u, ← s, v)
 
-        pub auto-address : h ≡ false → (d : List ℕ) → d ≡ innerWords a → (r : Bool) → r ≡ addressCoerces (layers d) (layers b) →
+        pub auto-address : h ≡ false → (d : List ℕ) → d ≡ inner_words a → (r : Bool) → r ≡ address_coerces (layers d) (layers b) →
             r ≡ autoderefs (layers a) (layers b)
         auto-address v d i r w = rw (pointer-lines, u, ← s, v, ← inner-layers a, ← i) w
 

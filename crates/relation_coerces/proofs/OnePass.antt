@@ -10,15 +10,15 @@ use lib.Dec.{eqb}
 use lib.ListN.{length, drop, get_or, length-drop}
 use borrow.Author.Tests.{eq-eqb, eqb-true, eqb-false, not-false}
 use Rattle.type_numbers.specs.Kind as kind
-use Rattle.type_layers.specs.Layers.{Layer, layer, outer, inside, isReference}
+use Rattle.type_layers.specs.Layers.{Layer, layer, outer, inside, is_reference}
 use Rattle.type_layers.proofs.Decide.{both, neither}
-use Rattle.relation_equals.specs.Equals.{sameLayer, identical, plainKind, plainLayer, plain, equals}
+use Rattle.relation_equals.specs.Equals.{same_layer, identical, plain_kind, plain_layer, plain, equals}
 use Rattle.relation_equals.proofs.Theorems.{same-layers}
 use Rattle.relation_coerces.specs.Coerces.{subautoderefs}
-use Rattle.relation_coerces.specs.AsCoded.{mayEqual, comparedBy, Pass, ends, goesOn, pass}
+use Rattle.relation_coerces.specs.AsCoded.{may_equal, compared_by, Pass, ends, goes_on, pass}
 
 -- Char8 and Uint8, which equals takes for one, are neither View nor Pointer
-same_kind : (k l : ℕ) → plainKind k ≡ plainKind l → isReference l ≡ true → k ≡ l
+same_kind : (k l : ℕ) → plain_kind k ≡ plain_kind l → is_reference l ≡ true → k ≡ l
 same_kind k l e t = by-alias (eqb k kind.char8) (eqb l kind.char8) refl refl e
   where
     by-alias : (u v : Bool) → eqb k kind.char8 ≡ u → eqb l kind.char8 ≡ v → cond u kind.uint8 k ≡ cond v kind.uint8 l → k ≡ l
@@ -27,11 +27,11 @@ same_kind k l e t = by-alias (eqb k kind.char8) (eqb l kind.char8) refl refl e
     by-alias false false p q s = s
 
 -- two layers that equals takes for the same
-plain-kinds : (x y : Layer) → sameLayer (plainLayer x) (plainLayer y) ≡ true → plainKind x.kind ≡ plainKind y.kind
-plain-kinds x y e = ap (λ z. z.kind) (same-layers (plainLayer x) (plainLayer y) e)
+plain-kinds : (x y : Layer) → same_layer (plain_layer x) (plain_layer y) ≡ true → plain_kind x.kind ≡ plain_kind y.kind
+plain-kinds x y e = ap (λ z. z.kind) (same-layers (plain_layer x) (plain_layer y) e)
 
 -- so a View or a Pointer equals nothing of another kind
-pub apart : (d b : List Layer) → mayEqual (outer d) (outer b) ≡ false → equals d b ≡ false
+pub apart : (d b : List Layer) → may_equal (outer d) (outer b) ≡ false → equals d b ≡ false
 unfolding outer equals plain identical
 apart [] b e = absurd (true≢false (sym (or-true (eqb 25 (outer b))) ∙ e))
 apart (x ∷ d) [] e = refl
@@ -40,9 +40,9 @@ apart (x ∷ d) (y ∷ b) e = by-test (equals (x ∷ d) (y ∷ b)) refl
     by-test : (t : Bool) → equals (x ∷ d) (y ∷ b) ≡ t → t ≡ false
     by-test false p = refl
     by-test true p =
-        let f = neither (eqb x.kind y.kind) (not (isReference x.kind)) e in
-        let same = plain-kinds x y (both (sameLayer (plainLayer x) (plainLayer y)) (identical (plain d) (plain b)) p).0 in
-        absurd (eqb-false x.kind y.kind f.0 (sym (same_kind y.kind x.kind (sym same) (not-false (isReference x.kind) f.1))))
+        let f = neither (eqb x.kind y.kind) (not (is_reference x.kind)) e in
+        let same = plain-kinds x y (both (same_layer (plain_layer x) (plain_layer y)) (identical (plain d) (plain b)) p).0 in
+        absurd (eqb-false x.kind y.kind f.0 (sym (same_kind y.kind x.kind (sym same) (not-false (is_reference x.kind) f.1))))
 
 -- what one of three tests gives, if each gives it; and the last of three that follows from each of the others
 any_of : (u v w x : Bool) → (u ≡ true → x ≡ true) → (v ≡ true → x ≡ true) → (w ≡ true → x ≡ true) → (u || v || w) ≡ true → x ≡ true
@@ -56,19 +56,19 @@ last_of false true w p q = sym (q refl)
 last_of false false w p q = refl
 
 -- what equals a View or a Pointer, or sub-autoderefs into it, sub-autoderefs into what that holds
-module _ (y : Layer) (b : List Layer) (t : isReference y.kind ≡ true) where
+module _ (y : Layer) (b : List Layer) (t : is_reference y.kind ≡ true) where
   equals-held : (d : List Layer) → equals d (y ∷ b) ≡ true → subautoderefs d b ≡ true
   unfolding equals plain identical subautoderefs
   equals-held [] e = absurd (false≢true e)
   equals-held (z ∷ d) e =
-      let f = both (sameLayer (plainLayer z) (plainLayer y)) (identical (plain d) (plain b)) e in
+      let f = both (same_layer (plain_layer z) (plain_layer y)) (identical (plain d) (plain b)) e in
       rw (same_kind z.kind y.kind (plain-kinds z y f.0) t, t, f.1)
 
   into-held : (d : List Layer) → subautoderefs d (y ∷ b) ≡ true → subautoderefs d b ≡ true
   unfolding outer inside subautoderefs
   into-held [] e = e
   into-held (z ∷ d) e =
-      let f = both (isReference z.kind) (equals d (y ∷ b) || subautoderefs d (y ∷ b) || eqb y.kind z.kind && subautoderefs d b) e in
+      let f = both (is_reference z.kind) (equals d (y ∷ b) || subautoderefs d (y ∷ b) || eqb y.kind z.kind && subautoderefs d b) e in
       let last : (eqb y.kind z.kind && subautoderefs d b) ≡ true → subautoderefs d b ≡ true = λ g. (both (eqb y.kind z.kind) (subautoderefs d b) g).1 in
       let s = any_of _ _ _ (subautoderefs d b) (equals-held d) (into-held d) last f.1 in
       rw (f.0, s, or-true)
@@ -76,11 +76,11 @@ module _ (y : Layer) (b : List Layer) (t : isReference y.kind ≡ true) where
 -- So sub-autoderefs need ask of one other pair at most: what both hold, where they are of one kind, or else d and b.
 pub one_line : (x : Layer) (d b : List Layer) →
     subautoderefs (x ∷ d) b
-    ≡ cond (isReference x.kind) (cond (eqb (outer b) x.kind) (subautoderefs d (inside b)) (cond (equals d b) true (subautoderefs d b))) false
+    ≡ cond (is_reference x.kind) (cond (eqb (outer b) x.kind) (subautoderefs d (inside b)) (cond (equals d b) true (subautoderefs d b))) false
 unfolding outer inside subautoderefs
-one_line x d b = by_tests b (isReference x.kind) (eqb (outer b) x.kind) (equals d b) refl refl refl
+one_line x d b = by_tests b (is_reference x.kind) (eqb (outer b) x.kind) (equals d b) refl refl refl
   where
-    by_tests : (b : List Layer) (t u v : Bool) → isReference x.kind ≡ t → eqb (outer b) x.kind ≡ u → equals d b ≡ v →
+    by_tests : (b : List Layer) (t u v : Bool) → is_reference x.kind ≡ t → eqb (outer b) x.kind ≡ u → equals d b ≡ v →
         subautoderefs (x ∷ d) b ≡ cond t (cond u (subautoderefs d (inside b)) (cond v true (subautoderefs d b))) false
     by_tests b false u v p q r = rw p
     by_tests b true false true p q r = rw (p, r)
@@ -92,26 +92,26 @@ one_line x d b = by_tests b (isReference x.kind) (eqb (outer b) x.kind) (equals 
 
 -- a fact of each branch that a pass may take is one of the pass
 by-branch : (P : Pass → Type 0) (x : Layer) (d b : List Layer) →
-    (isReference x.kind ≡ true → eqb (outer b) x.kind ≡ true → P (goesOn (x ∷ d) b 0 (pass d (inside b)))) →
-    (isReference x.kind ≡ true → eqb (outer b) x.kind ≡ false → equals d b ≡ true → P (ends (x ∷ d) b (comparedBy d b) true)) →
-    (isReference x.kind ≡ true → eqb (outer b) x.kind ≡ false → equals d b ≡ false →
-    (n : ℕ) → n ≤ comparedBy d b → P (goesOn (x ∷ d) b n (pass d b))) →
-    (isReference x.kind ≡ false → P (ends (x ∷ d) b 0 false)) →
+    (is_reference x.kind ≡ true → eqb (outer b) x.kind ≡ true → P (goes_on (x ∷ d) b 0 (pass d (inside b)))) →
+    (is_reference x.kind ≡ true → eqb (outer b) x.kind ≡ false → equals d b ≡ true → P (ends (x ∷ d) b (compared_by d b) true)) →
+    (is_reference x.kind ≡ true → eqb (outer b) x.kind ≡ false → equals d b ≡ false →
+    (n : ℕ) → n ≤ compared_by d b → P (goes_on (x ∷ d) b n (pass d b))) →
+    (is_reference x.kind ≡ false → P (ends (x ∷ d) b 0 false)) →
     P (pass (x ∷ d) b)
 unfolding pass
 by-branch P x d b held equal on other =
-    by_tests (isReference x.kind) (eqb (outer b) x.kind) (mayEqual (outer d) (outer b)) (equals d b) refl refl refl refl
+    by_tests (is_reference x.kind) (eqb (outer b) x.kind) (may_equal (outer d) (outer b)) (equals d b) refl refl refl refl
   where
-    by_tests : (t u m v : Bool) → isReference x.kind ≡ t → eqb (outer b) x.kind ≡ u → mayEqual (outer d) (outer b) ≡ m → equals d b ≡ v →
+    by_tests : (t u m v : Bool) → is_reference x.kind ≡ t → eqb (outer b) x.kind ≡ u → may_equal (outer d) (outer b) ≡ m → equals d b ≡ v →
         P (cond t
-        (cond u (goesOn (x ∷ d) b 0 (pass d (inside b)))
-        (cond m (cond v (ends (x ∷ d) b (comparedBy d b) true) (goesOn (x ∷ d) b (comparedBy d b) (pass d b)))
-        (goesOn (x ∷ d) b 0 (pass d b))))
+        (cond u (goes_on (x ∷ d) b 0 (pass d (inside b)))
+        (cond m (cond v (ends (x ∷ d) b (compared_by d b) true) (goes_on (x ∷ d) b (compared_by d b) (pass d b)))
+        (goes_on (x ∷ d) b 0 (pass d b))))
         (ends (x ∷ d) b 0 false))
     by_tests false u m v p q r s = other p
     by_tests true true m v p q r s = held p q
     by_tests true false true true p q r s = equal p q s
-    by_tests true false true false p q r s = on p q s (comparedBy d b) (omega arith)
+    by_tests true false true false p q r s = on p q s (compared_by d b) (omega arith)
     by_tests true false false v p q r s = on p q (apart d b r) 0 (omega arith)
 
 -- One pass answers it.
@@ -169,7 +169,7 @@ pass-once a b i j h g e =
     omega (arith, h, g, few, same, length-drop i a, length-drop j a)
 
 -- In it *equals* compares no more pairs of layers than a holds layers: 15 where a has 16.
-compares-next : (d : List Layer) → ((b : List Layer) → comparedBy d b + (pass d b).compared ≤ length d) → (x : Layer) (b : List Layer) →
+compares-next : (d : List Layer) → ((b : List Layer) → compared_by d b + (pass d b).compared ≤ length d) → (x : Layer) (b : List Layer) →
     (pass (x ∷ d) b).compared ≤ length d
 compares-next d f x b =
     by-branch (λ p. p.compared ≤ length d) x d b
@@ -178,17 +178,17 @@ compares-next d f x b =
     (λ p q r n h. omega (arith, h, f b))
     (λ p. omega arith)
 
-compares-both : (d b : List Layer) → comparedBy d b + (pass d b).compared ≤ length d
-unfolding comparedBy pass outer inside
+compares-both : (d b : List Layer) → compared_by d b + (pass d b).compared ≤ length d
+unfolding compared_by pass outer inside
 compares-both [] b = omega arith
 compares-both (z ∷ d) [] = let f = compares-next d (compares-both d) z [] in omega (arith, f)
 compares-both (z ∷ d) (y ∷ b) =
-    by_tests (sameLayer (plainLayer z) (plainLayer y)) (isReference z.kind) refl refl
+    by_tests (same_layer (plain_layer z) (plain_layer y)) (is_reference z.kind) refl refl
     (compares-both d b) (compares-next d (compares-both d) z (y ∷ b))
   where
-    by_tests : (s t : Bool) → sameLayer (plainLayer z) (plainLayer y) ≡ s → isReference z.kind ≡ t →
-        comparedBy d b + (pass d b).compared ≤ length d → (pass (z ∷ d) (y ∷ b)).compared ≤ length d →
-        comparedBy (z ∷ d) (y ∷ b) + (pass (z ∷ d) (y ∷ b)).compared ≤ suc (length d)
+    by_tests : (s t : Bool) → same_layer (plain_layer z) (plain_layer y) ≡ s → is_reference z.kind ≡ t →
+        compared_by d b + (pass d b).compared ≤ length d → (pass (z ∷ d) (y ∷ b)).compared ≤ length d →
+        compared_by (z ∷ d) (y ∷ b) + (pass (z ∷ d) (y ∷ b)).compared ≤ suc (length d)
     by_tests false t p q i j = rw p (omega (arith, j))
     by_tests true false p q i j = rw (p, q) (omega (arith, i))
     by_tests true true p q i j =
@@ -205,5 +205,5 @@ in_turn k l = two ++ two ++ two ++ two ++ two ++ two ++ two ++ layer k 0 0 ∷ l
     two = layer k 0 0 ∷ layer l 0 0 ∷ []
 
 pub fifteen-compared : (pass (in_turn kind.pointer kind.view) (in_turn kind.view kind.pointer)).compared ≡ 15
-unfolding pass comparedBy outer inside equals identical plain
+unfolding pass compared_by outer inside equals identical plain
 fifteen-compared = refl

@@ -2,7 +2,7 @@
 -- Assumes nothing.
 use mathlib.Core.Path.{◌≡◌, refl, sym, ◌∙◌}
 use Rattle.type_layers.proofs.Single.{Single}
-use Rattle.relation_coerces.specs.AsCoded.{ofCoercion}
+use Rattle.relation_coerces.specs.AsCoded.{of_coercion}
 use Rattle.relation_coerces.specs.declared.coercion.Coercion.{Coercion}
 use Rattle.relation_coerces.specs.declared.coercion.Coercion.TheVariants as coded
 use Rattle.relation_coerces.proofs.coercion.Coercion.number.Kinds as number-kinds
@@ -17,7 +17,7 @@ use Rattle.relation_coerces.proofs.autoderefs.can_autoderef_into.Reads as can-au
 use Rattle.relation_coerces.proofs.autoderefs.can_subautoderef_into.Reads as can-subautoderef-into
 
 -- the three answers are apart
-pub coercion-apart : (x y : Coercion) → ofCoercion x ≡ ofCoercion y → x ≡ y
+pub coercion-apart : (x y : Coercion) → of_coercion x ≡ of_coercion y → x ≡ y
 coercion-apart coded.None coded.None e = refl
 coercion-apart coded.None coded.AsValue e = cc
 coercion-apart coded.None coded.ByAddress e = cc

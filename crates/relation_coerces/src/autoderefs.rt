@@ -1,7 +1,7 @@
 ghost use Rattle.std.specs.Prelude.{◌≡◌};
 ghost use Rattle.type_layers.specs.Layers.{layers};
 ghost use Rattle.relation_coerces.specs.Coerces as rules;
-ghost use Rattle.relation_coerces.specs.AsCoded.{mayEqual};
+ghost use Rattle.relation_coerces.specs.AsCoded.{may_equal};
 
 use crate::coercion::coerces;
 use relation_equals::equals;
@@ -9,7 +9,7 @@ use type_layers::{inner, is_reference, outer};
 use type_numbers::Kind;
 
 fn is_array_or_struct(k: u64) -> bool
-    ensures { result ≡ rules.isArrayOrStruct k }
+    ensures { result ≡ rules.is_array_or_struct k }
 {
     (k == Kind::ARRAY)
         | (k == Kind::ARRAY_WITH_NAMED_LENGTH)
@@ -44,7 +44,7 @@ pub fn can_autoderef_into(a: &[u64], b: &[u64]) -> bool
 
 // Whether a type of the outer kind j may equal one of the outer kind l: a View or a Pointer equals only its own kind.
 fn may_equal(j: u64, l: u64) -> bool
-    ensures { result ≡ mayEqual j l }
+    ensures { result ≡ may_equal j l }
 {
     (j == l) | !is_reference(j)
 }

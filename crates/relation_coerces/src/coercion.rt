@@ -1,7 +1,7 @@
 ghost use Rattle.std.specs.Prelude.{◌≡◌, cond, eqb};
 ghost use Rattle.type_numbers.specs.CoercionNumber as of-coercion;
 ghost use Rattle.type_layers.specs.Layers.{layers};
-ghost use Rattle.relation_coerces.specs.Coerces.{hasLength};
+ghost use Rattle.relation_coerces.specs.Coerces.{has_length};
 ghost use Rattle.relation_coerces.specs.Coercion.{coercion};
 ghost use Rattle.relation_coerces.specs.AsCoded as as-coded;
 
@@ -19,7 +19,7 @@ pub enum Coercion {
 
 impl Coercion {
     pub fn number(self) -> u64
-        ensures { result ≡ as-coded.ofCoercion self }
+        ensures { result ≡ as-coded.of_coercion self }
     {
         match self {
             Coercion::None => CoercionNumber::NONE,
@@ -29,7 +29,7 @@ impl Coercion {
     }
 
     pub fn is_as_value(self) -> bool
-        ensures { result ≡ eqb (as-coded.ofCoercion self) of-coercion.asValue }
+        ensures { result ≡ eqb (as-coded.of_coercion self) of-coercion.as_value }
     {
         match self {
             Coercion::None => false,
@@ -39,7 +39,7 @@ impl Coercion {
     }
 
     pub fn is_by_address(self) -> bool
-        ensures { result ≡ eqb (as-coded.ofCoercion self) of-coercion.by_address }
+        ensures { result ≡ eqb (as-coded.of_coercion self) of-coercion.by_address }
     {
         match self {
             Coercion::None => false,
@@ -49,7 +49,7 @@ impl Coercion {
     }
 
     fn only_if(self, same: bool) -> Coercion
-        ensures { as-coded.ofCoercion result ≡ cond same (as-coded.ofCoercion self) of-coercion.none }
+        ensures { as-coded.of_coercion result ≡ cond same (as-coded.of_coercion self) of-coercion.none }
     {
         if same { self } else { Coercion::None }
     }
@@ -68,13 +68,13 @@ enum Open {
 }
 
 fn has_length(k: u64) -> bool
-    ensures { result ≡ hasLength k }
+    ensures { result ≡ has_length k }
 {
     (k == Kind::ARRAY) | (k == Kind::ARRAY_WITH_NAMED_LENGTH)
 }
 
 fn open_to(k: u64, l: u64) -> Open
-    ensures { result ≡ as-coded.openTo k l }
+    ensures { result ≡ as-coded.open_to k l }
 {
     let sized = has_length(k);
     if sized & (l == Kind::SLICE) {
@@ -98,14 +98,14 @@ fn open_to(k: u64, l: u64) -> Open
 }
 
 fn same_in_endless_array(element: &[u64], held: &[u64]) -> bool
-    ensures { result ≡ as-coded.sameInEndlessArray (layers element.now) (layers held.now) }
+    ensures { result ≡ as-coded.same_in_endless_array (layers element.now) (layers held.now) }
 {
     (outer(held) == Kind::ENDLESS_ARRAY) && equals(element, inner(held))
 }
 
 // How a type coerces into another: the outer kinds are looked at once, and then equals or identical is asked once at most.
 pub fn coerces(a: &[u64], b: &[u64]) -> Coercion
-    ensures { as-coded.ofCoercion result ≡ coercion (layers a.now) (layers b.now) }
+    ensures { as-coded.of_coercion result ≡ coercion (layers a.now) (layers b.now) }
 {
     let held = inner(b);
     match open_to(outer(a), outer(b)) {

@@ -7,15 +7,15 @@ use Prim.Native.Nat.{ℕ, ◌≤◌, ◌<◌}
 use lib.Dec.{eqb, ltb}
 use lib.ListN.{length, get_or}
 use Rattle.type_numbers.specs.Kind as kind
-use Rattle.type_layers.specs.Layers.{is_slice, layers, outer, innerWords}
+use Rattle.type_layers.specs.Layers.{is_slice, layers, outer, inner_words}
 use Rattle.type_layers.specs.AsCoded.{head}
 use Rattle.type_layers.proofs.Words.{rest, none, more, inner-layers}
 use Rattle.relation_equals.specs.Equals.{identical}
 use Rattle.relation_equals.proofs.Steps.{no-layer}
-use Rattle.relation_declared.specs.Declared.{like, declared, declaresArraylike, slicePointerMeetsPointer, concretization, sameHolder, arrayMeetsArraylike, meetsArraylike, resolves}
+use Rattle.relation_declared.specs.Declared.{like, declared, declares_arraylike, slice_pointer_meets_pointer, concretization, same_holder, array_meets_arraylike, meets_arraylike, resolves}
 
 -- where the code holds the outcome of a test
-pub meets-by : (k l : ℕ) (f g : Bool) → f ≡ arrayMeetsArraylike k l → g ≡ is_slice k → (f || g && eqb l kind.arraylike) ≡ meetsArraylike k l
+pub meets-by : (k l : ℕ) (f g : Bool) → f ≡ array_meets_arraylike k l → g ≡ is_slice k → (f || g && eqb l kind.arraylike) ≡ meets_arraylike k l
 meets-by k l f g p q = rw (p, q)
 
 pub holder-by : (f g u v w : Bool) → f ≡ g → (f && u && v && w) ≡ (g && u && v && w)
@@ -31,7 +31,7 @@ module _ (a b : List ℕ) where
   unfolding like identical
   like-less h k = rw (more a, none b)
 
-  module _ (f r : Bool) (h : 3 ≤ length a) (k : 3 ≤ length b) (e : f ≡ arrayMeetsArraylike (get_or a 0 0) (get_or b 0 0)) where
+  module _ (f r : Bool) (h : 3 ≤ length a) (k : 3 ≤ length b) (e : f ≡ array_meets_arraylike (get_or a 0 0) (get_or b 0 0)) where
     pub like-in : f ≡ true → r ≡ like (layers (rest a)) (layers (rest b)) → r ≡ like (layers a) (layers b)
     unfolding like
     like-in g i = rw (more a, more b, ← e, g) i
@@ -42,13 +42,13 @@ module _ (a b : List ℕ) where
 
 -- declared as: k and l are the outer kinds of a and b, d and c are what they hold
 module _ (a b c d : List ℕ) (k l : ℕ) (f r : Bool) (p : k ≡ outer (layers a)) (q : l ≡ outer (layers b))
-    (u : d ≡ innerWords a) (i : c ≡ innerWords b) (e : f ≡ declaresArraylike k l) where
+    (u : d ≡ inner_words a) (i : c ≡ inner_words b) (e : f ≡ declares_arraylike k l) where
   pub declared-array : f ≡ true → r ≡ identical (layers d) (layers c) → r ≡ declared (layers a) (layers b)
   unfolding declared
   declared-array t s = rw (← p, ← q, ← e, t, ← inner-layers a, ← inner-layers b, ← u, ← i) s
 
-  module _ (n : f ≡ false) (m : ℕ) (w : m ≡ outer (layers c)) (g : Bool) (j : g ≡ slicePointerMeetsPointer k l m) where
-    pub declared-pointer : (o : List ℕ) → g ≡ true → o ≡ innerWords c → r ≡ identical (layers d) (layers o) →
+  module _ (n : f ≡ false) (m : ℕ) (w : m ≡ outer (layers c)) (g : Bool) (j : g ≡ slice_pointer_meets_pointer k l m) where
+    pub declared-pointer : (o : List ℕ) → g ≡ true → o ≡ inner_words c → r ≡ identical (layers d) (layers o) →
         r ≡ declared (layers a) (layers b)
     unfolding declared
     declared-pointer o t v s =
@@ -68,19 +68,19 @@ module _ (a b : List ℕ) where
   unfolding concretization identical
   concrete-less h k = rw (more a, none b)
 
-  module _ (f r : Bool) (h : 3 ≤ length a) (k : 3 ≤ length b) (e : f ≡ sameHolder (head a) (head b)) where
+  module _ (f r : Bool) (h : 3 ≤ length a) (k : 3 ≤ length b) (e : f ≡ same_holder (head a) (head b)) where
     pub concrete-in : f ≡ true → r ≡ concretization (layers (rest a)) (layers (rest b)) → r ≡ concretization (layers a) (layers b)
     unfolding concretization
     concrete-in g i = rw (more a, more b, ← e, g) i
 
-    module _ (g : Bool) (n : f ≡ false) (p : g ≡ meetsArraylike (get_or a 0 0) (get_or b 0 0)) where
+    module _ (g : Bool) (n : f ≡ false) (p : g ≡ meets_arraylike (get_or a 0 0) (get_or b 0 0)) where
       pub concrete-like : g ≡ true → r ≡ like (layers (rest a)) (layers (rest b)) → r ≡ concretization (layers a) (layers b)
       unfolding concretization
       concrete-like t i = rw (more a, more b, ← e, n, ← p, t) i
 
       module _ (m : ℕ) (v : Bool) (s : g ≡ false) (w : m ≡ outer (layers (rest b)))
-          (j : v ≡ slicePointerMeetsPointer (get_or a 0 0) (get_or b 0 0) m) where
-        pub concrete-pointer : (d : List ℕ) → v ≡ true → d ≡ innerWords (rest b) → r ≡ like (layers (rest a)) (layers d) →
+          (j : v ≡ slice_pointer_meets_pointer (get_or a 0 0) (get_or b 0 0) m) where
+        pub concrete-pointer : (d : List ℕ) → v ≡ true → d ≡ inner_words (rest b) → r ≡ like (layers (rest a)) (layers d) →
             r ≡ concretization (layers a) (layers b)
         unfolding concretization
         concrete-pointer d x y i = rw (more a, more b, ← e, n, ← p, s, ← w, ← j, x, ← inner-layers, ← y) i

@@ -12,7 +12,7 @@ use type_numbers::Kind;
 // The same outer kind that holds an inner type, with the same length or name.
 fn same_holder(a: &[u64], b: &[u64]) -> bool
     requires { (3 ≤ length a.now) × (3 ≤ length b.now) }
-    ensures { result ≡ rules.sameHolder (head a.now) (head b.now) }
+    ensures { result ≡ rules.same_holder (head a.now) (head b.now) }
 {
     let k = a[0];
     holds_inner(k)
@@ -22,7 +22,7 @@ fn same_holder(a: &[u64], b: &[u64]) -> bool
 }
 
 fn meets_arraylike(k: u64, l: u64) -> bool
-    ensures { result ≡ rules.meetsArraylike k l }
+    ensures { result ≡ rules.meets_arraylike k l }
 {
     array_meets_arraylike(k, l) | (is_slice(k) & (l == Kind::ARRAYLIKE))
 }

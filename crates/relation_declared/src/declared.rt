@@ -7,7 +7,7 @@ use type_layers::{inner, outer};
 use type_numbers::Kind;
 
 fn declares_arraylike(k: u64, l: u64) -> bool
-    ensures { result ≡ rules.declaresArraylike k l }
+    ensures { result ≡ rules.declares_arraylike k l }
 {
     ((k == Kind::ARRAY) | (k == Kind::ARRAY_WITH_NAMED_LENGTH) | (k == Kind::SLICE))
         & (l == Kind::ARRAYLIKE)
@@ -15,7 +15,7 @@ fn declares_arraylike(k: u64, l: u64) -> bool
 
 // A SlicePointer against a Pointer to an Arraylike: the outer kinds of both and of the pointee.
 pub(crate) fn slice_pointer_meets_pointer(k: u64, l: u64, m: u64) -> bool
-    ensures { result ≡ rules.slicePointerMeetsPointer k l m }
+    ensures { result ≡ rules.slice_pointer_meets_pointer k l m }
 {
     (k == Kind::SLICE_POINTER) & (l == Kind::POINTER) & (m == Kind::ARRAYLIKE)
 }

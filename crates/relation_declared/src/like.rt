@@ -6,7 +6,7 @@ use relation_equals::identical;
 use type_numbers::Kind;
 
 pub(crate) fn array_meets_arraylike(k: u64, l: u64) -> bool
-    ensures { result ≡ rules.arrayMeetsArraylike k l }
+    ensures { result ≡ rules.array_meets_arraylike k l }
 {
     ((k == Kind::ARRAY) | (k == Kind::ARRAY_WITH_NAMED_LENGTH) | (k == Kind::ENDLESS_ARRAY))
         & (l == Kind::ARRAYLIKE)

@@ -7,9 +7,9 @@ use lib.Dec.{eqb}
 use borrow.Author.Tests.{eq-eqb, eqb-true}
 use Rattle.type_layers.specs.Layers.{Layer, layer}
 use Rattle.type_layers.proofs.Decide.{both}
-use Rattle.relation_equals.specs.Equals.{sameLayer, identical, plain, equals}
+use Rattle.relation_equals.specs.Equals.{same_layer, identical, plain, equals}
 
-pub same-layers : (x y : Layer) → sameLayer x y ≡ true → x ≡ y
+pub same-layers : (x y : Layer) → same_layer x y ≡ true → x ≡ y
 same-layers x y e =
     let f = both (eqb x.kind y.kind && eqb x.name y.name) (eqb x.number y.number) e in
     let g = both (eqb x.kind y.kind) (eqb x.name y.name) f.0 in
@@ -26,7 +26,7 @@ identical-equal [] [] e = refl
 identical-equal [] (y ∷ b) e = absurd (false≢true e)
 identical-equal (x ∷ a) [] e = absurd (false≢true e)
 identical-equal (x ∷ a) (y ∷ b) e =
-    let f = both (sameLayer x y) (identical a b) e in
+    let f = both (same_layer x y) (identical a b) e in
     rw (same-layers x y f.0, identical-equal a b f.1)
 
 -- Every type is identical to itself.

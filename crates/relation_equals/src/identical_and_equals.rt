@@ -8,7 +8,7 @@ use type_numbers::Kind;
 
 fn same_layer(a: &[u64], b: &[u64]) -> bool
     requires { (3 ≤ length a.now) × (3 ≤ length b.now) }
-    ensures { result ≡ rules.sameLayer (head a.now) (head b.now) }
+    ensures { result ≡ rules.same_layer (head a.now) (head b.now) }
 {
     (a[0] == b[0]) & (a[1] == b[1]) & (a[2] == b[2])
 }
@@ -38,7 +38,7 @@ fn is_alias_of(k: u64, l: u64) -> bool
 
 fn equal_layer(a: &[u64], b: &[u64]) -> bool
     requires { (3 ≤ length a.now) × (3 ≤ length b.now) }
-    ensures { result ≡ rules.sameLayer (rules.plainLayer (head a.now)) (rules.plainLayer (head b.now)) }
+    ensures { result ≡ rules.same_layer (rules.plain_layer (head a.now)) (rules.plain_layer (head b.now)) }
 {
     let k = a[0];
     let l = b[0];

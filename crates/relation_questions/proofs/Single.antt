@@ -4,9 +4,9 @@ use mathlib.Core.Path.{◌≡◌, sym, ap, ◌∙◌}
 use Rattle.type_layers.proofs.Apart.{verdict-apart}
 use Rattle.type_layers.proofs.Given.{given_is}
 use Rattle.type_layers.proofs.Single.{Single}
-use Rattle.relation_coerces.specs.AsCoded.{ofCoercion}
+use Rattle.relation_coerces.specs.AsCoded.{of_coercion}
 use Rattle.relation_coerces.proofs.Single.{coercion-apart}
-use Rattle.relation_questions.specs.AsCoded.{ofCoercionAnswer}
+use Rattle.relation_questions.specs.AsCoded.{of_coercion_answer}
 use Rattle.relation_questions.specs.declared.ask_coercion.CoercionAnswer.{CoercionAnswer}
 use Rattle.relation_questions.specs.declared.ask_coercion.CoercionAnswer.TheVariants as answer
 use Rattle.relation_questions.proofs.ask_relation.relates.Kinds as relates-kinds
@@ -18,8 +18,8 @@ pub relates-single : Single 2 relates-kinds.ps relates-kinds.r relates.Post
 relates-single κs a x y s t p q = verdict-apart x y (p ∙ sym q)
 
 -- the answers to the coercion question are apart
-coercion-answer-apart : (x y : CoercionAnswer) → ofCoercionAnswer x ≡ ofCoercionAnswer y → x ≡ y
-coercion-answer-apart (answer.Given c) (answer.Given d) e = ap answer.Given (coercion-apart c d (given_is (ofCoercion c) (ofCoercion d) e))
+coercion-answer-apart : (x y : CoercionAnswer) → of_coercion_answer x ≡ of_coercion_answer y → x ≡ y
+coercion-answer-apart (answer.Given c) (answer.Given d) e = ap answer.Given (coercion-apart c d (given_is (of_coercion c) (of_coercion d) e))
 coercion-answer-apart (answer.Given c) (answer.Refused n p) e = cc
 coercion-answer-apart (answer.Refused n p) (answer.Given c) e = cc
 coercion-answer-apart (answer.Refused n p) (answer.Refused m q) e = cc

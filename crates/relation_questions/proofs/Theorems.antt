@@ -8,12 +8,12 @@ use lib.Dec.{eqb}
 use Rattle.type_numbers.specs.CoercionNumber as of-coercion
 use Rattle.type_layers.specs.Layers.{layers}
 use Rattle.type_layers.specs.Answer.{Answer, given, nothing, refused, next, truth}
-use Rattle.type_checks.specs.Check.{checkOf}
-use Rattle.relation_coerces.specs.Coerces.{coerces, addressCoerces}
+use Rattle.type_checks.specs.Check.{check_of}
+use Rattle.relation_coerces.specs.Coerces.{coerces, address_coerces}
 use Rattle.relation_coerces.specs.Coercion.{coercion}
 use Rattle.relation_coerces.proofs.Theorems.{as-value, by-address}
-use Rattle.relation_questions.specs.Questions.{coercionAnswer}
-use Rattle.relation_questions.specs.Earlier.{earlierValueAnswer, earlierAddressAnswer, whether}
+use Rattle.relation_questions.specs.Questions.{coercion_answer}
+use Rattle.relation_questions.specs.Earlier.{earlier_value_answer, earlier_address_answer, whether}
 
 -- after two checks, of which a refusal stands
 after-checks : (x y : Answer ℕ) (n m : ℕ) (f : Bool) → eqb m n ≡ f → whether n (next x (next y (given m))) ≡ next x (next y (truth f))
@@ -26,13 +26,13 @@ after-checks nothing (given j) n m f e = ap truth e
 after-checks nothing nothing n m f e = ap truth e
 
 -- It answers as a value exactly where the first said yes, and refuses what that refused;
-pub value-as-it-was : (a b : List ℕ) → whether of-coercion.asValue (coercionAnswer a b) ≡ earlierValueAnswer a b
-unfolding coercionAnswer earlierValueAnswer
+pub value-as-it-was : (a b : List ℕ) → whether of-coercion.as_value (coercion_answer a b) ≡ earlier_value_answer a b
+unfolding coercion_answer earlier_value_answer
 value-as-it-was a b =
-    after-checks (checkOf a) (checkOf b) of-coercion.asValue (coercion (layers a) (layers b)) (coerces (layers a) (layers b)) (as-value (layers a) (layers b))
+    after-checks (check_of a) (check_of b) of-coercion.as_value (coercion (layers a) (layers b)) (coerces (layers a) (layers b)) (as-value (layers a) (layers b))
 
 -- by address exactly where the second did.
-pub address-as-it-was : (a b : List ℕ) → whether of-coercion.by_address (coercionAnswer a b) ≡ earlierAddressAnswer a b
-unfolding coercionAnswer earlierAddressAnswer
+pub address-as-it-was : (a b : List ℕ) → whether of-coercion.by_address (coercion_answer a b) ≡ earlier_address_answer a b
+unfolding coercion_answer earlier_address_answer
 address-as-it-was a b =
-    after-checks (checkOf a) (checkOf b) of-coercion.by_address (coercion (layers a) (layers b)) (addressCoerces (layers a) (layers b)) (by-address (layers a) (layers b))
+    after-checks (check_of a) (check_of b) of-coercion.by_address (coercion (layers a) (layers b)) (address_coerces (layers a) (layers b)) (by-address (layers a) (layers b))

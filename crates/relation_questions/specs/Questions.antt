@@ -2,7 +2,7 @@
 use Rattle.std.specs.Prelude.{Bool, List, ℕ}
 use Rattle.type_layers.specs.Layers.{Layer, layers}
 use Rattle.type_layers.specs.Answer.{Answer, given, next, truth}
-use Rattle.type_checks.specs.Check.{checkOf}
+use Rattle.type_checks.specs.Check.{check_of}
 use Rattle.relation_equals.specs.Equals.{identical, equals}
 use Rattle.relation_declared.specs.Declared.{like, declared, concretization}
 use Rattle.relation_coerces.specs.Coerces.{autoderefs, subautoderefs}
@@ -19,8 +19,8 @@ relates relation.ConcretizationOf a b = concretization a b
 relates relation.Autoderefs a b = autoderefs a b
 relates relation.Subautoderefs a b = subautoderefs a b
 
-unfoldable pub relationAnswer : Relation → List ℕ → List ℕ → Answer ℕ
-relationAnswer r a b = next (checkOf a) (next (checkOf b) (truth (relates r (layers a) (layers b))))
+unfoldable pub relation_answer : Relation → List ℕ → List ℕ → Answer ℕ
+relation_answer r a b = next (check_of a) (next (check_of b) (truth (relates r (layers a) (layers b))))
 
-unfoldable pub coercionAnswer : List ℕ → List ℕ → Answer ℕ
-coercionAnswer a b = next (checkOf a) (next (checkOf b) (given (coercion (layers a) (layers b))))
+unfoldable pub coercion_answer : List ℕ → List ℕ → Answer ℕ
+coercion_answer a b = next (check_of a) (next (check_of b) (given (coercion (layers a) (layers b))))

@@ -1,5 +1,5 @@
 ghost use Rattle.std.specs.Prelude.{◌≡◌};
-ghost use Rattle.relation_questions.specs.Questions.{coercionAnswer};
+ghost use Rattle.relation_questions.specs.Questions.{coercion_answer};
 ghost use Rattle.relation_questions.specs.AsCoded as as-coded;
 
 use relation_coerces::Coercion;
@@ -15,7 +15,7 @@ pub enum CoercionAnswer {
 
 // Of any words: whether they are two types, and how the first coerces into the second.
 pub fn coerces(a: &[u64], b: &[u64]) -> CoercionAnswer
-    ensures { as-coded.ofCoercionAnswer result ≡ coercionAnswer a.now b.now }
+    ensures { as-coded.of_coercion_answer result ≡ coercion_answer a.now b.now }
 {
     match check_types(a, b) {
         Checked::Refused { number, place } => CoercionAnswer::Refused { number, place },

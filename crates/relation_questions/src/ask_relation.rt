@@ -1,6 +1,6 @@
 ghost use Rattle.std.specs.Prelude.{◌≡◌};
 ghost use Rattle.type_layers.specs.Layers.{layers};
-ghost use Rattle.type_layers.specs.Answer.{ofVerdict};
+ghost use Rattle.type_layers.specs.Answer.{of_verdict};
 ghost use Rattle.relation_questions.specs.Questions as answers;
 
 use relation_coerces::{can_autoderef_into, can_subautoderef_into};
@@ -37,7 +37,7 @@ fn holds(relation: Relation, a: &[u64], b: &[u64]) -> bool
 
 // Whether any words are two types of which the first stands so to the second.
 pub fn relates(relation: Relation, a: &[u64], b: &[u64]) -> Verdict
-    ensures { ofVerdict result ≡ answers.relationAnswer relation a.now b.now }
+    ensures { of_verdict result ≡ answers.relation_answer relation a.now b.now }
 {
     match check_types(a, b) {
         Checked::Refused { number, place } => Verdict::Refused { number, place },

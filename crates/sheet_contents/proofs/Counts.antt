@@ -12,10 +12,10 @@ use lib.ListN.{length, take, drop, get_or, drop_of_length-le}
 use lib.Seq.{drop-cons}
 use borrow.Author.Tests.{leb-true}
 use Rattle.type_layers.proofs.Decide.{both}
-use Rattle.sheet_contents.specs.Contents.{up_to, goodCounts, total}
+use Rattle.sheet_contents.specs.Contents.{up_to, good_counts, total}
 
 abbrev pub measured : List ℕ → ℕ
-measured cs = cond (goodCounts cs) (total cs) 0
+measured cs = cond (good_counts cs) (total cs) 0
 
 -- a good count is at most its limit, and not 0
 module _ (most n : ℕ) (e : up_to most n ≡ true) where
@@ -29,7 +29,7 @@ module _ (most n : ℕ) (e : up_to most n ≡ true) where
 pub record Summed (cs : List ℕ) (sum i : ℕ) : Type 0 where
   pub within : i ≤ length cs
   pub few : sum ≤ 16 * i
-  pub rest : cond (goodCounts (drop i cs)) (sum + total (drop i cs)) 0 ≡ measured cs
+  pub rest : cond (good_counts (drop i cs)) (sum + total (drop i cs)) 0 ≡ measured cs
 
 module _ (cs : List ℕ) where
   pub none_yet : Summed cs 0 0
@@ -37,8 +37,8 @@ module _ (cs : List ℕ) where
 
 module _ (cs : List ℕ) (sum i : ℕ) (p : Summed cs sum i) where
   module _ (h : i < length cs) (t : Bool) (e : t ≡ up_to 16 (get_or cs i 0)) where
-    open-rest : cond (up_to 16 (get_or cs i 0) && goodCounts (drop (suc i) cs)) (sum + (get_or cs i 0 + total (drop (suc i) cs))) 0 ≡ measured cs
-    unfolding goodCounts total
+    open-rest : cond (up_to 16 (get_or cs i 0) && good_counts (drop (suc i) cs)) (sum + (get_or cs i 0 + total (drop (suc i) cs))) 0 ≡ measured cs
+    unfolding good_counts total
     open-rest = rw (drop-cons cs i 0 h) at p.rest
 
     pub bad-count : t ≡ false → 0 ≡ measured cs
@@ -59,32 +59,32 @@ module _ (cs : List ℕ) (sum i : ℕ) (p : Summed cs sum i) where
         }
 
   pub summed : length cs ≤ i → sum ≡ measured cs
-  unfolding goodCounts total
+  unfolding good_counts total
   summed h = rw (drop_of_length-le cs h, add-zero) at p.rest
 
   pub few-layers : length cs ≤ 32 → sum ≤ 512
   few-layers h = omega (arith, p.within, p.few)
 
 -- good counts are none of them 0
-pub total-positive : (cs : List ℕ) → goodCounts cs ≡ true → length cs ≤ total cs
-unfolding goodCounts total
+pub total-positive : (cs : List ℕ) → good_counts cs ≡ true → length cs ≤ total cs
+unfolding good_counts total
 total-positive [] e = omega arith
 total-positive (c ∷ cs) e =
-    let p = both (up_to 16 c) (goodCounts cs) e in
+    let p = both (up_to 16 c) (good_counts cs) e in
     omega (arith, at_least 16 c p.0, total-positive cs p.1)
 
 -- a run of good counts that is cut short
-pub good-front : (k : ℕ) (cs : List ℕ) → goodCounts cs ≡ true → goodCounts (take k cs) ≡ true
-unfolding goodCounts
+pub good-front : (k : ℕ) (cs : List ℕ) → good_counts cs ≡ true → good_counts (take k cs) ≡ true
+unfolding good_counts
 good-front zero cs e = refl
 good-front (suc k) [] e = refl
-good-front (suc k) (c ∷ cs) e = let p = both (up_to 16 c) (goodCounts cs) e in rw (p.0, good-front k cs p.1)
+good-front (suc k) (c ∷ cs) e = let p = both (up_to 16 c) (good_counts cs) e in rw (p.0, good-front k cs p.1)
 
-pub good-at : (k : ℕ) (cs : List ℕ) → goodCounts cs ≡ true → k < length cs → get_or cs k 0 ≤ 16
-unfolding goodCounts
+pub good-at : (k : ℕ) (cs : List ℕ) → good_counts cs ≡ true → k < length cs → get_or cs k 0 ≤ 16
+unfolding good_counts
 good-at k [] e h = absurd (omega arith)
-good-at zero (c ∷ cs) e h = at_most 16 c (both (up_to 16 c) (goodCounts cs) e).0
-good-at (suc k) (c ∷ cs) e h = good-at k cs (both (up_to 16 c) (goodCounts cs) e).1 (omega arith)
+good-at zero (c ∷ cs) e h = at_most 16 c (both (up_to 16 c) (good_counts cs) e).0
+good-at (suc k) (c ∷ cs) e h = good-at k cs (both (up_to 16 c) (good_counts cs) e).1 (omega arith)
 
 -- what stands before one count, that count, and all counts
 pub total-front : (k : ℕ) (cs : List ℕ) → k < length cs → total (take k cs) + get_or cs k 0 ≤ total cs
@@ -93,9 +93,9 @@ total-front k [] h = absurd (omega arith)
 total-front zero (c ∷ cs) h = omega arith
 total-front (suc k) (c ∷ cs) h = omega (arith, total-front k cs (omega arith))
 
-pub total-few : (cs : List ℕ) → goodCounts cs ≡ true → total cs ≤ 16 * length cs
-unfolding goodCounts total
+pub total-few : (cs : List ℕ) → good_counts cs ≡ true → total cs ≤ 16 * length cs
+unfolding good_counts total
 total-few [] e = omega arith
 total-few (c ∷ cs) e =
-    let p = both (up_to 16 c) (goodCounts cs) e in
+    let p = both (up_to 16 c) (good_counts cs) e in
     omega (arith, at_most 16 c p.0, total-few cs p.1)

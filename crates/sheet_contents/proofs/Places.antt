@@ -7,9 +7,9 @@ use Prim.Native.Nat.{ℕ, zero, suc, ◌+◌, ◌*◌, ◌-◌, ◌^◌, ◌≤�
 use native.Mathlib.Omega.{arith}
 use lib.ListN.{length, take, drop, get_or, get_or-eq_default}
 use lib.Seq.{take-take, drop-drop, get_or-take, get_or-drop}
-use Rattle.sheet_contents.specs.Contents.{total, isSheet, count, layerCounts, types_in, bodies, types, type_at}
+use Rattle.sheet_contents.specs.Contents.{total, is_sheet, count, layer_counts, types_in, bodies, types, type_at}
 use Rattle.sheet_contents.proofs.Counts.{measured, good-front, total-front, total-positive, total-few, good-at}
-use Rattle.sheet_contents.proofs.Shape.{countsTo, counts-to, length-counts, Sheet, sheet-known}
+use Rattle.sheet_contents.proofs.Shape.{counts_to, counts-to, length-counts, Sheet, sheet-known}
 
 pub length-bodies : (cs ws : List ℕ) → length (bodies cs ws) ≡ length cs
 unfolding bodies
@@ -25,8 +25,8 @@ body_is (suc k) (c ∷ cs) ws h =
     body_is k cs (drop (3 * c) ws) (omega arith) ∙ rw (drop-drop, e)
 
 -- where there are types there is a sheet
-a-sheet : (ws : List ℕ) (k : ℕ) → k < types_in ws → isSheet ws ≡ true
-a-sheet ws k h = by-test (isSheet ws) h
+a-sheet : (ws : List ℕ) (k : ℕ) → k < types_in ws → is_sheet ws ≡ true
+a-sheet ws k h = by-test (is_sheet ws) h
   where
     by-test : (t : Bool) → k < cond t (count ws) 0 → t ≡ true
     by-test true h = refl
@@ -34,12 +34,12 @@ a-sheet ws k h = by-test (isSheet ws) h
 
 pub how-many : (ws : List ℕ) → length (types ws) ≡ types_in ws
 unfolding types
-how-many ws = by-test (isSheet ws) refl
+how-many ws = by-test (is_sheet ws) refl
   where
-    by-test : (t : Bool) → isSheet ws ≡ t → length (cond t (bodies (layerCounts ws) (drop (1 + count ws) ws)) []) ≡ cond t (count ws) 0
+    by-test : (t : Bool) → is_sheet ws ≡ t → length (cond t (bodies (layer_counts ws) (drop (1 + count ws) ws)) []) ≡ cond t (count ws) 0
     by-test false e = refl
     by-test true e =
-        length-bodies (layerCounts ws) (drop (1 + count ws) ws)
+        length-bodies (layer_counts ws) (drop (1 + count ws) ws)
         ∙ length-counts (count ws) ws (omega (arith, (sheet-known ws e).whole))
 
 module _ (ws : List ℕ) (k n : ℕ) (e : n ≡ types_in ws) where
@@ -47,7 +47,7 @@ module _ (ws : List ℕ) (k n : ℕ) (e : n ≡ types_in ws) where
   no-type h = sym (get_or-eq_default (types ws) [] (rw (how-many ws, sym e) h))
 
   module _ (h : k < n) where
-    is : isSheet ws ≡ true
+    is : is_sheet ws ≡ true
     is = a-sheet ws k (rw (sym e) h)
 
     sheet : Sheet ws
@@ -59,23 +59,23 @@ module _ (ws : List ℕ) (k n : ℕ) (e : n ≡ types_in ws) where
     here : k < count ws
     here = rw (sym number) h
 
-    long : length (layerCounts ws) ≡ count ws
+    long : length (layer_counts ws) ≡ count ws
     long = length-counts (count ws) ws (omega (arith, sheet.whole))
 
     -- the count of type k stands behind the number of types
-    own : get_or ws (k + 1) 0 ≡ get_or (layerCounts ws) k 0
+    own : get_or ws (k + 1) 0 ≡ get_or (layer_counts ws) k 0
     own =
         let f : 1 + k ≡ k + 1 = omega arith in
         sym (get_or-take (count ws) (drop 1 ws) k 0 here ∙ get_or-drop 1 ws k 0 ∙ rw f)
 
     pub counted : k + 1 < length ws
-    counted = omega (arith, sheet.whole, here, total-positive (layerCounts ws) sheet.good, long)
+    counted = omega (arith, sheet.whole, here, total-positive (layer_counts ws) sheet.good, long)
 
     pub counted-to : k + 1 ≤ length ws
     counted-to = omega (arith, counted)
 
     small : 3 * get_or ws (k + 1) 0 ≤ 48
-    small = omega (arith, own, good-at k (layerCounts ws) sheet.good (rw long here))
+    small = omega (arith, own, good-at k (layer_counts ws) sheet.good (rw long here))
 
     pub small-fits : 3 * get_or ws (k + 1) 0 < 2 ^ 64
     small-fits = omega (arith, small)
@@ -83,26 +83,26 @@ module _ (ws : List ℕ) (k n : ℕ) (e : n ≡ types_in ws) where
     pub end_fits : (m : ℕ) → n ≤ 32 → m ≤ 512 → 1 + n + 3 * m + 3 * get_or ws (k + 1) 0 < 2 ^ 64
     end_fits m few l = omega (arith, small)
 
-    module _ (m : ℕ) (g : m ≡ measured (countsTo k ws)) where
-      before : m ≡ total (take k (layerCounts ws))
+    module _ (m : ℕ) (g : m ≡ measured (counts_to k ws)) where
+      before : m ≡ total (take k (layer_counts ws))
       before =
-          let f : take k (drop 1 ws) ≡ take k (layerCounts ws) = sym (take-take k (count ws) (drop 1 ws) (omega (arith, here))) in
-          g ∙ rw (counts-to k ws, f, good-front k (layerCounts ws) sheet.good)
+          let f : take k (drop 1 ws) ≡ take k (layer_counts ws) = sym (take-take k (count ws) (drop 1 ws) (omega (arith, here))) in
+          g ∙ rw (counts-to k ws, f, good-front k (layer_counts ws) sheet.good)
 
       pub in-the-sheet : 1 + n + 3 * m + 3 * get_or ws (k + 1) 0 ≤ length ws
       in-the-sheet =
-          omega (arith, number, before, own, sheet.whole, total-front k (layerCounts ws) (rw long here))
+          omega (arith, number, before, own, sheet.whole, total-front k (layer_counts ws) (rw long here))
 
       pub type-is : take (1 + n + 3 * m + 3 * get_or ws (k + 1) 0 - (1 + n + 3 * m)) (drop (1 + n + 3 * m) ws) ≡ type_at k ws
       unfolding types
       type-is =
-          let size : 1 + n + 3 * m + 3 * get_or ws (k + 1) 0 - (1 + n + 3 * m) ≡ 3 * get_or (layerCounts ws) k 0 = omega (arith, own) in
-          let start : 1 + n + 3 * m ≡ 1 + count ws + 3 * total (take k (layerCounts ws)) = omega (arith, number, before) in
-          rw (size, start, is) (sym (body_is k (layerCounts ws) (drop (1 + count ws) ws) (rw long here) ∙ rw drop-drop))
+          let size : 1 + n + 3 * m + 3 * get_or ws (k + 1) 0 - (1 + n + 3 * m) ≡ 3 * get_or (layer_counts ws) k 0 = omega (arith, own) in
+          let start : 1 + n + 3 * m ≡ 1 + count ws + 3 * total (take k (layer_counts ws)) = omega (arith, number, before) in
+          rw (size, start, is) (sym (body_is k (layer_counts ws) (drop (1 + count ws) ws) (rw long here) ∙ rw drop-drop))
 
 -- a sheet has at most 1569 words
-pub sheet-short : (ws : List ℕ) → isSheet ws ≡ true → length ws ≤ 1569
+pub sheet-short : (ws : List ℕ) → is_sheet ws ≡ true → length ws ≤ 1569
 sheet-short ws e =
     let s = sheet-known ws e in
     let n = length-counts (count ws) ws (omega (arith, s.whole)) in
-    omega (arith, s.whole, s.few, n, total-few (layerCounts ws) s.good)
+    omega (arith, s.whole, s.few, n, total-few (layer_counts ws) s.good)

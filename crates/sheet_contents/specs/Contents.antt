@@ -11,27 +11,27 @@ abbrev pub count : List ℕ → ℕ
 count ws = get_or ws 0 0
 
 -- "then each type's layer count 1 to 16,"
-abbrev pub layerCounts : List ℕ → List ℕ
-layerCounts ws = take (count ws) (drop 1 ws)
+abbrev pub layer_counts : List ℕ → List ℕ
+layer_counts ws = take (count ws) (drop 1 ws)
 
-unfoldable pub goodCounts : List ℕ → Bool
-goodCounts [] = true
-goodCounts (c ∷ cs) = up_to limit.layers c && goodCounts cs
+unfoldable pub good_counts : List ℕ → Bool
+good_counts [] = true
+good_counts (c ∷ cs) = up_to limit.layers c && good_counts cs
 
 unfoldable pub total : List ℕ → ℕ
 total [] = 0
 total (c ∷ cs) = c + total cs
 
 -- "then the bodies. Any other length or count: 16."
-unfoldable pub isSheet : List ℕ → Bool
-isSheet ws =
-    up_to limit.sheetTypes (count ws)
-    && goodCounts (layerCounts ws)
-    && eqb (length ws) (1 + count ws + 3 * total (layerCounts ws))
+unfoldable pub is_sheet : List ℕ → Bool
+is_sheet ws =
+    up_to limit.sheet_types (count ws)
+    && good_counts (layer_counts ws)
+    && eqb (length ws) (1 + count ws + 3 * total (layer_counts ws))
 
 -- How many types a sheet has; of other words 0.
 abbrev pub types_in : List ℕ → ℕ
-types_in ws = cond (isSheet ws) (count ws) 0
+types_in ws = cond (is_sheet ws) (count ws) 0
 
 -- The bodies: each type's words stand behind those of the type before it.
 unfoldable pub bodies : List ℕ → List ℕ → List (List ℕ)
@@ -40,7 +40,7 @@ bodies (c ∷ cs) ws = take (3 * c) ws ∷ bodies cs (drop (3 * c) ws)
 
 -- The types of a sheet; of other words none.
 unfoldable pub types : List ℕ → List (List ℕ)
-types ws = cond (isSheet ws) (bodies (layerCounts ws) (drop (1 + count ws) ws)) []
+types ws = cond (is_sheet ws) (bodies (layer_counts ws) (drop (1 + count ws) ws)) []
 
 -- The words of type k, from 0; past the last type no words.
 abbrev pub type_at : ℕ → List ℕ → List ℕ

@@ -13,9 +13,9 @@ fn up_to(most: u64, n: u64) -> bool
 
 // The layers of all types together; 0 where a layer count is not 1 to 16.
 fn total(counts: &[u64]) -> usize
-    requires { length counts.now ≤ limit.sheetTypes }
-    ensures is { result ≡ cond (sheet.goodCounts counts.now) (sheet.total counts.now) 0 }
-    ensures few { result ≤ limit.sheetTypes * limit.layers }
+    requires { length counts.now ≤ limit.sheet_types }
+    ensures is { result ≡ cond (sheet.good_counts counts.now) (sheet.total counts.now) 0 }
+    ensures few { result ≤ limit.sheet_types * limit.layers }
 {
     let mut sum = 0;
     let mut i = 0;
@@ -33,7 +33,7 @@ fn total(counts: &[u64]) -> usize
 // How many types a sheet has; 0 where the counts are not those of a sheet, or a word is missing or left over.
 pub fn types_in(words: &[u64]) -> usize
     ensures is { result ≡ sheet.types_in words.now }
-    ensures few { result ≤ limit.sheetTypes }
+    ensures few { result ≤ limit.sheet_types }
 {
     if words.len() == 0 {
         return 0;

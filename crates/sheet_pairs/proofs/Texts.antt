@@ -9,7 +9,7 @@ use lib.ListN.{length, length-append}
 use Rattle.sheet_contents.specs.Contents.{types, type_at}
 use Rattle.sheet_text.specs.AsCoded.{put_at}
 use Rattle.sheet_text.specs.Decimal.{decimal}
-use Rattle.sheet_pairs.specs.Text.{answers, line, row, rows, header, refusedText, refusal}
+use Rattle.sheet_pairs.specs.Text.{answers, line, row, rows, header, refused_text, refusal}
 use Rattle.sheet_text.proofs.Putting.{Put, Did, then, fitted, room, digits-few}
 use Rattle.sheet_pairs.proofs.Rows.{Going, length-each, going-begin, going-same, going_end, going-room, going_on}
 
@@ -130,21 +130,21 @@ module _ (words : List ℕ) (at n : ℕ) (l : List ℕ) (pre : (at + n * 576 ≤
       table_on to' k' q = going_on (row (types words)) 576 (rows_short (types words) few) (types words) at l rows_fit i to k p next to' k' q
 
 -- the line of a refusal
-module _ (n : ℕ) (l : List ℕ) (h : 12 ≤ length l) (first : ℕ) (l1 : List ℕ) (p : Did 0 refusedText l first l1) (second : ℕ) (l2 : List ℕ)
+module _ (n : ℕ) (l : List ℕ) (h : 12 ≤ length l) (first : ℕ) (l1 : List ℕ) (p : Did 0 refused_text l first l1) (second : ℕ) (l2 : List ℕ)
     (q : Did first (decimal n) l1 second l2) where
-  word : Put 0 refusedText l first l1
-  word = fitted 0 refusedText l (omega arith) first l1 p
+  word : Put 0 refused_text l first l1
+  word = fitted 0 refused_text l (omega arith) first l1 p
 
-  numbered : Put 0 (refusedText ++ decimal n) l second l2
+  numbered : Put 0 (refused_text ++ decimal n) l second l2
   numbered =
-      let k = room 0 first refusedText l l1 word 2 (omega arith) in
-      then 0 first second refusedText (decimal n) l l1 l2 word (fitted first (decimal n) l1 (omega (arith, k, digits-few n)) second l2 q)
+      let k = room 0 first refused_text l l1 word 2 (omega arith) in
+      then 0 first second refused_text (decimal n) l l1 l2 word (fitted first (decimal n) l1 (omega (arith, k, digits-few n)) second l2 q)
       (omega (arith, digits-few n))
 
   pub refusal-put : (to : ℕ) (l3 : List ℕ) → Did second (10 ∷ []) l2 to l3 → (to ≡ length (refusal n)) × (l3 ≡ put_at 0 (refusal n) l)
   refusal-put to l3 r =
-      let k = room 0 second (refusedText ++ decimal n) l l2 numbered 1 (simp length-append (omega (arith, digits-few n))) in
-      let s = then 0 second to (refusedText ++ decimal n) (10 ∷ []) l l2 l3 numbered (fitted second (10 ∷ []) l2 k to l3 r)
+      let k = room 0 second (refused_text ++ decimal n) l l2 numbered 1 (simp length-append (omega (arith, digits-few n))) in
+      let s = then 0 second to (refused_text ++ decimal n) (10 ∷ []) l l2 l3 numbered (fitted second (10 ∷ []) l2 k to l3 r)
       (simp length-append (omega (arith, digits-few n))) in
       (rw zero-add at s.0, s.1)
 

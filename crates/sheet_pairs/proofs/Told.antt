@@ -9,12 +9,12 @@ use lib.ListN.{length, length-append, take, replicate}
 use lib.Seq.{length-take-le}
 use Rattle.write_words.specs.Written.{written}
 use Rattle.write_words.proofs.Writing.{fits, length-written}
-use Rattle.type_layers.specs.Answer.{given, refused, ofChecked}
+use Rattle.type_layers.specs.Answer.{given, refused, of_checked}
 use Rattle.type_layers.specs.declared.answers.Checked.{Checked}
 use Rattle.type_layers.specs.declared.answers.Checked.TheVariants as checked
-use Rattle.sheet_words.specs.Little.{wholeWords}
+use Rattle.sheet_words.specs.Little.{whole_words}
 use Rattle.sheet_contents.specs.Contents.{types}
-use Rattle.sheet_read.specs.Sheet.{readSheet}
+use Rattle.sheet_read.specs.Sheet.{read_sheet}
 use Rattle.sheet_read.proofs.Read.{Read, was_read, small-number}
 use Rattle.sheet_words.proofs.Decoding.{words_back}
 use Rattle.sheet_text.specs.AsCoded.{put_at}
@@ -36,9 +36,9 @@ all_told t l to k h q =
     let within : to ≤ length k = omega (arith, q.0) in
     ((q.0, within, sym (length-take-le to k within)), w)
 
-module _ (bs : List ℕ) (r : Checked) (e : ofChecked r ≡ readSheet bs) where
+module _ (bs : List ℕ) (r : Checked) (e : of_checked r ≡ read_sheet bs) where
   module _ (m p : ℕ) (f : r ≡ checked.Refused m p) where
-    not-read : refused m p ≡ readSheet bs
+    not-read : refused m p ≡ read_sheet bs
     not-read = rw f at e
 
     pub number_fits : m < 100
@@ -53,8 +53,8 @@ module _ (bs : List ℕ) (r : Checked) (e : ofChecked r ≡ readSheet bs) where
     refused-text l room to k q =
         rw says (all_told (refusal m) l to k (simp length-append (omega (arith, digits-few m))) q)
 
-  module _ (n : ℕ) (f : r ≡ checked.Good n) (z : List ℕ) (g : z ≡ written (wholeWords bs) (replicate 1569 0)) where
-    is_read : given n ≡ readSheet bs
+  module _ (n : ℕ) (f : r ≡ checked.Good n) (z : List ℕ) (g : z ≡ written (whole_words bs) (replicate 1569 0)) where
+    is_read : given n ≡ read_sheet bs
     is_read = rw f at e
 
     known : Read bs n
@@ -62,7 +62,7 @@ module _ (bs : List ℕ) (r : Checked) (e : ofChecked r ≡ readSheet bs) where
 
     pub few_words : length bs / 8 ≤ length z
     few_words =
-        let s : length z ≡ 1569 = rw g (length-written (wholeWords bs) (replicate 1569 0)) in
+        let s : length z ≡ 1569 = rw g (length-written (whole_words bs) (replicate 1569 0)) in
         omega (arith, known.short)
 
     pub so-many-words : length bs / 8 ≡ length (take (length bs / 8) z)

@@ -6,9 +6,9 @@ use Rattle.type_layers.specs.Layers.{layers}
 use Rattle.relation_equals.specs.Equals.{equals}
 use Rattle.relation_declared.specs.Declared as relation
 use Rattle.relation_coerces.specs.Coerces as coercion
-use Rattle.sheet_words.specs.Little.{wholeWords}
+use Rattle.sheet_words.specs.Little.{whole_words}
 use Rattle.sheet_contents.specs.Contents.{types}
-use Rattle.sheet_read.specs.Sheet.{readSheet}
+use Rattle.sheet_read.specs.Sheet.{read_sheet}
 
 abbrev space : ℕ
 space = 32
@@ -17,44 +17,44 @@ abbrev newline : ℕ
 newline = 10
 
 -- "left"
-abbrev leftWord : List ℕ
-leftWord = 108 ∷ 101 ∷ 102 ∷ 116 ∷ []
+abbrev left_word : List ℕ
+left_word = 108 ∷ 101 ∷ 102 ∷ 116 ∷ []
 
 -- "right"
-abbrev rightWord : List ℕ
-rightWord = 114 ∷ 105 ∷ 103 ∷ 104 ∷ 116 ∷ []
+abbrev right_word : List ℕ
+right_word = 114 ∷ 105 ∷ 103 ∷ 104 ∷ 116 ∷ []
 
 -- "equals"
-abbrev equalsWord : List ℕ
-equalsWord = 101 ∷ 113 ∷ 117 ∷ 97 ∷ 108 ∷ 115 ∷ []
+abbrev equals_word : List ℕ
+equals_word = 101 ∷ 113 ∷ 117 ∷ 97 ∷ 108 ∷ 115 ∷ []
 
 -- "declared"
-abbrev declaredWord : List ℕ
-declaredWord = 100 ∷ 101 ∷ 99 ∷ 108 ∷ 97 ∷ 114 ∷ 101 ∷ 100 ∷ []
+abbrev declared_word : List ℕ
+declared_word = 100 ∷ 101 ∷ 99 ∷ 108 ∷ 97 ∷ 114 ∷ 101 ∷ 100 ∷ []
 
 -- "concrete"
-abbrev concreteWord : List ℕ
-concreteWord = 99 ∷ 111 ∷ 110 ∷ 99 ∷ 114 ∷ 101 ∷ 116 ∷ 101 ∷ []
+abbrev concrete_word : List ℕ
+concrete_word = 99 ∷ 111 ∷ 110 ∷ 99 ∷ 114 ∷ 101 ∷ 116 ∷ 101 ∷ []
 
 -- "coerces"
-abbrev coercesWord : List ℕ
-coercesWord = 99 ∷ 111 ∷ 101 ∷ 114 ∷ 99 ∷ 101 ∷ 115 ∷ []
+abbrev coerces_word : List ℕ
+coerces_word = 99 ∷ 111 ∷ 101 ∷ 114 ∷ 99 ∷ 101 ∷ 115 ∷ []
 
 -- "address"
-abbrev addressWord : List ℕ
-addressWord = 97 ∷ 100 ∷ 100 ∷ 114 ∷ 101 ∷ 115 ∷ 115 ∷ []
+abbrev address_word : List ℕ
+address_word = 97 ∷ 100 ∷ 100 ∷ 114 ∷ 101 ∷ 115 ∷ 115 ∷ []
 
 -- "autoderef"
-abbrev autoderefWord : List ℕ
-autoderefWord = 97 ∷ 117 ∷ 116 ∷ 111 ∷ 100 ∷ 101 ∷ 114 ∷ 101 ∷ 102 ∷ []
+abbrev autoderef_word : List ℕ
+autoderef_word = 97 ∷ 117 ∷ 116 ∷ 111 ∷ 100 ∷ 101 ∷ 114 ∷ 101 ∷ 102 ∷ []
 
 -- "refused "
-abbrev pub refusedText : List ℕ
-refusedText = 114 ∷ 101 ∷ 102 ∷ 117 ∷ 115 ∷ 101 ∷ 100 ∷ space ∷ []
+abbrev pub refused_text : List ℕ
+refused_text = 114 ∷ 101 ∷ 102 ∷ 117 ∷ 115 ∷ 101 ∷ 100 ∷ space ∷ []
 
 -- "left right equals declared concrete coerces address autoderef"
 abbrev pub header : List ℕ
-header = leftWord ++ space ∷ rightWord ++ space ∷ equalsWord ++ space ∷ declaredWord ++ space ∷ concreteWord ++ space ∷ coercesWord ++ space ∷ addressWord ++ space ∷ autoderefWord ++ newline ∷ []
+header = left_word ++ space ∷ right_word ++ space ∷ equals_word ++ space ∷ declared_word ++ space ∷ concrete_word ++ space ∷ coerces_word ++ space ∷ address_word ++ space ∷ autoderef_word ++ newline ∷ []
 
 -- "with yes as 1"
 abbrev pub digit : Bool → ℕ
@@ -67,7 +67,7 @@ answers a b =
     ∷ space ∷ digit (relation.declared (layers a) (layers b))
     ∷ space ∷ digit (relation.concretization (layers a) (layers b))
     ∷ space ∷ digit (coercion.coerces (layers a) (layers b))
-    ∷ space ∷ digit (coercion.addressCoerces (layers a) (layers b))
+    ∷ space ∷ digit (coercion.address_coerces (layers a) (layers b))
     ∷ space ∷ digit (coercion.autoderefs (layers a) (layers b))
     ∷ newline ∷ []
 
@@ -89,7 +89,7 @@ rows ts = each (row ts) 1 ts
 
 -- "A refusal prints only one line such as `refused 16`."
 abbrev pub refusal : ℕ → List ℕ
-refusal n = refusedText ++ decimal n ++ newline ∷ []
+refusal n = refused_text ++ decimal n ++ newline ∷ []
 
 -- What is printed for the bytes that were read.
 abbrev pub printed : List (List ℕ) → Answer ℕ → List ℕ
@@ -98,4 +98,4 @@ printed ts nothing = []
 printed ts (refused n p) = refusal n
 
 unfoldable pub text : List ℕ → List ℕ
-text bs = printed (types (wholeWords bs)) (readSheet bs)
+text bs = printed (types (whole_words bs)) (read_sheet bs)

@@ -15,7 +15,7 @@ use type_numbers::Limit;
 
 // Puts the lines of one left type against each of the n types of a sheet: 32 of 18 bytes at most.
 fn put_row(out: &mut [u8], at: usize, words: &[u64], n: usize, i: usize) -> usize
-    requires { (at + 576 ≤ length out.old) × (n ≤ limit.sheetTypes) × (i < limit.sheetTypes) × (n ≡ length (types words.now)) }
+    requires { (at + 576 ≤ length out.old) × (n ≤ limit.sheet_types) × (i < limit.sheet_types) × (n ≡ length (types words.now)) }
     ensures next { result ≡ at + length (text.row (types words.now) (i + 1) (type_at i words.now)) }
     ensures text { out.new
         ≡ put_at at (text.row (types words.now) (i + 1) (type_at i words.now)) out.old }
@@ -32,7 +32,7 @@ fn put_row(out: &mut [u8], at: usize, words: &[u64], n: usize, i: usize) -> usiz
 
 // Puts the lines of all ordered pairs of the n types of a sheet.
 fn put_rows(out: &mut [u8], at: usize, words: &[u64], n: usize) -> usize
-    requires { (at + n * 576 ≤ length out.old) × (n ≤ limit.sheetTypes) × (n ≡ length (types words.now)) }
+    requires { (at + n * 576 ≤ length out.old) × (n ≤ limit.sheet_types) × (n ≡ length (types words.now)) }
     ensures next { result ≡ at + length (text.rows (types words.now)) }
     ensures text { out.new ≡ put_at at (text.rows (types words.now)) out.old }
 {
@@ -58,7 +58,7 @@ fn put_refusal(out: &mut [u8], number: u64) -> usize
 
 // Puts the header and the lines of a sheet of n types.
 fn put_table(out: &mut [u8], words: &[u64], n: usize) -> usize
-    requires { (limit.pairsBytes ≤ length out.old) × (n ≤ limit.sheetTypes) × (n ≡ length (types words.now)) }
+    requires { (limit.pairs_bytes ≤ length out.old) × (n ≤ limit.sheet_types) × (n ≡ length (types words.now)) }
     ensures next { result ≡ length (text.header ++ text.rows (types words.now)) }
     ensures text { out.new ≡ put_at 0 (text.header ++ text.rows (types words.now)) out.old }
 {

@@ -1,5 +1,5 @@
 ghost use Rattle.std.specs.Prelude.{◌≡◌};
-ghost use Rattle.type_layers.specs.Answer.{ofChecked};
+ghost use Rattle.type_layers.specs.Answer.{of_checked};
 ghost use Rattle.sheet_read.specs.Sheet as sheet;
 
 use sheet_contents::{type_at, types_in};
@@ -9,7 +9,7 @@ use type_layers::Checked;
 use type_numbers::{Limit, Refusal};
 
 fn bad_sheet() -> Checked
-    ensures { ofChecked result ≡ sheet.badSheet }
+    ensures { of_checked result ≡ sheet.bad_sheet }
 {
     Checked::Refused {
         number: Refusal::BAD_SHEET,
@@ -19,7 +19,7 @@ fn bad_sheet() -> Checked
 
 // The words of a sheet: how many types it has, or the first refusal.
 pub fn read_words(words: &[u64]) -> Checked
-    ensures { ofChecked result ≡ sheet.readWords words.now }
+    ensures { of_checked result ≡ sheet.read_words words.now }
 {
     let n = types_in(words);
     if n == 0 {
@@ -38,7 +38,7 @@ pub fn read_words(words: &[u64]) -> Checked
 
 // The bytes of a sheet: how many types it has, or the first refusal.
 pub fn read_sheet(bytes: &[u8]) -> Checked
-    ensures { ofChecked result ≡ sheet.readSheet bytes.now }
+    ensures { of_checked result ≡ sheet.read_sheet bytes.now }
 {
     if bytes.len() > Limit::SHEET_BYTES {
         return bad_sheet();

@@ -9,7 +9,7 @@ use lib.ListN.{length, take, drop, get_or, set, replicate}
 use lib.Seq.{drop-cons, drop-drop, take_at}
 use Rattle.write_words.specs.Written.{written}
 use Rattle.write_words.proofs.Writing.{Begun, begin, go_on, all, too_short, fits}
-use Rattle.sheet_words.specs.Little.{little, words_of, wholeWords}
+use Rattle.sheet_words.specs.Little.{little, words_of, whole_words}
 
 module _ (bs : List ℕ) where
   byte : (n i j : ℕ) → i < length bs → j ≡ i + 1 → take (suc n) (drop i bs) ≡ get_or bs i 0 ∷ take n (drop j bs)
@@ -66,28 +66,28 @@ abbrev zeros : List ℕ
 zeros = replicate 1569 0
 
 module _ (bs : List ℕ) where
-  pub too_many : 1569 < length bs / 8 → zeros ≡ written (wholeWords bs) zeros
-  too_many h = too_short (wholeWords bs) zeros (rw (length-words (length bs / 8) bs) h)
+  pub too_many : 1569 < length bs / 8 → zeros ≡ written (whole_words bs) zeros
+  too_many h = too_short (whole_words bs) zeros (rw (length-words (length bs / 8) bs) h)
 
-  pub decode-begin : length bs / 8 ≤ 1569 → Begun (wholeWords bs) zeros zeros 0
-  decode-begin h = begin (wholeWords bs) zeros (rw (length-words (length bs / 8) bs) h)
+  pub decode-begin : length bs / 8 ≤ 1569 → Begun (whole_words bs) zeros zeros 0
+  decode-begin h = begin (whole_words bs) zeros (rw (length-words (length bs / 8) bs) h)
 
-  module _ (l : List ℕ) (i : ℕ) (p : Begun (wholeWords bs) zeros l i) where
-    pub decode-more : i < length bs / 8 → (r : ℕ) → r ≡ little (take 8 (drop (i * 8) bs)) → Begun (wholeWords bs) zeros (set l i r) (i + 1)
+  module _ (l : List ℕ) (i : ℕ) (p : Begun (whole_words bs) zeros l i) where
+    pub decode-more : i < length bs / 8 → (r : ℕ) → r ≡ little (take 8 (drop (i * 8) bs)) → Begun (whole_words bs) zeros (set l i r) (i + 1)
     decode-more h r e =
-        let here : r ≡ get_or (wholeWords bs) i 0 = e ∙ sym (word-is (length bs / 8) i bs h) in
-        rw here (go_on (wholeWords bs) zeros l i p (rw (length-words (length bs / 8) bs) h))
+        let here : r ≡ get_or (whole_words bs) i 0 = e ∙ sym (word-is (length bs / 8) i bs h) in
+        rw here (go_on (whole_words bs) zeros l i p (rw (length-words (length bs / 8) bs) h))
 
-    pub decoded : length bs / 8 ≤ i → l ≡ written (wholeWords bs) zeros
-    decoded h = all (wholeWords bs) zeros l i p (rw (length-words (length bs / 8) bs) h)
+    pub decoded : length bs / 8 ≤ i → l ≡ written (whole_words bs) zeros
+    decoded h = all (whole_words bs) zeros l i p (rw (length-words (length bs / 8) bs) h)
 
     pub inside : length l ≡ 1569
     inside = p.same
 
 -- the words of bytes that are not too many
-pub words_back : (bs z : List ℕ) → length bs ≤ 12552 → z ≡ written (wholeWords bs) (replicate 1569 0) → take (length bs / 8) z ≡ wholeWords bs
+pub words_back : (bs z : List ℕ) → length bs ≤ 12552 → z ≡ written (whole_words bs) (replicate 1569 0) → take (length bs / 8) z ≡ whole_words bs
 words_back bs z h e =
-    let n : length (wholeWords bs) ≡ length bs / 8 = length-words (length bs / 8) bs in
-    let w : z ≡ wholeWords bs ++ drop (length (wholeWords bs)) (replicate 1569 0) =
-    e ∙ fits (wholeWords bs) (replicate 1569 0) (rw n (omega arith)) in
-    rw w (take_at (wholeWords bs) (drop (length (wholeWords bs)) (replicate 1569 0)) (length bs / 8) n)
+    let n : length (whole_words bs) ≡ length bs / 8 = length-words (length bs / 8) bs in
+    let w : z ≡ whole_words bs ++ drop (length (whole_words bs)) (replicate 1569 0) =
+    e ∙ fits (whole_words bs) (replicate 1569 0) (rw n (omega arith)) in
+    rw w (take_at (whole_words bs) (drop (length (whole_words bs)) (replicate 1569 0)) (length bs / 8) n)

@@ -11,5 +11,5 @@ unfoldable pub words_of : ℕ → List ℕ → List ℕ
 words_of zero bs = []
 words_of (suc n) bs = little (take 8 bs) ∷ words_of n (drop 8 bs)
 
-abbrev pub wholeWords : List ℕ → List ℕ
-wholeWords bs = words_of (length bs / 8) bs
+abbrev pub whole_words : List ℕ → List ℕ
+whole_words bs = words_of (length bs / 8) bs

@@ -1,7 +1,7 @@
 ghost use Rattle.std.specs.Prelude.{◌≡◌, [], ◌∷◌, ◌+◌, ◌*◌, ◌/◌, ◌≤◌, length, drop, replicate, take};
 ghost use Rattle.type_numbers.specs.Limit as limit;
 ghost use Rattle.write_words.specs.Written.{written};
-ghost use Rattle.sheet_words.specs.Little.{little, wholeWords};
+ghost use Rattle.sheet_words.specs.Little.{little, whole_words};
 
 use type_numbers::Limit;
 
@@ -33,7 +33,7 @@ fn word_at(bytes: &[u8], at: usize) -> u64
 
 // The whole words of the bytes, and zeros behind them; zeros alone where they are more than any sheet has.
 pub fn words_of(bytes: &[u8]) -> [u64; Limit::SHEET_WORDS]
-    ensures { result ≡ written (wholeWords bytes.now) (replicate limit.sheetWords 0) }
+    ensures { result ≡ written (whole_words bytes.now) (replicate limit.sheet_words 0) }
 {
     let mut words = [0; Limit::SHEET_WORDS];
     let n = bytes.len() / 8;

@@ -1,7 +1,7 @@
 ghost use Rattle.std.specs.Prelude.{◌≡◌};
-ghost use Rattle.symbol_columns.specs.AsCoded.{readFrom};
+ghost use Rattle.symbol_columns.specs.AsCoded.{read_from};
 ghost use Rattle.symbol_operations.specs.Operation.{acts};
-ghost use Rattle.symbol_operations.specs.AsCoded.{ofAct, ofOperation};
+ghost use Rattle.symbol_operations.specs.AsCoded.{of_act, of_operation};
 ghost use Rattle.symbol_change.specs.Change as rules;
 ghost use Rattle.symbol_change.specs.AsCoded as as-coded;
 
@@ -41,14 +41,14 @@ fn nowhere(n: usize, answer: Answer) -> Change
 }
 
 fn is_changed(a: Answer) -> bool
-    ensures { result ≡ as-coded.isChanged a }
+    ensures { result ≡ as-coded.is_changed a }
 {
     (a.refusal == 0) & (a.value != Effect::KEPT)
 }
 
 // What became of the record that was found.
 fn if_changed(n: usize, slot: usize, u: Updated) -> Change
-    ensures { result ≡ as-coded.ifChanged n slot u }
+    ensures { result ≡ as-coded.if_changed n slot u }
 {
     let symbol = u.symbol;
     let answer = u.answer;
@@ -65,7 +65,7 @@ fn if_changed(n: usize, slot: usize, u: Updated) -> Change
 
 // A put with nothing: the table is judged, and that is all.
 fn keep(flat: &Columns, n: usize, store: &[u64]) -> Change
-    ensures { result ≡ as-coded.nowhere n (rules.nothingPut (readFrom flat.now 0 n) store.now) }
+    ensures { result ≡ as-coded.nowhere n (rules.nothing_put (read_from flat.now 0 n) store.now) }
 {
     if in_order(flat, n, store) {
         nowhere(n, accepted(Effect::KEPT))
@@ -87,7 +87,7 @@ fn act_in(
     offered: &[u64],
 ) -> Change
     ensures { as-coded.Chooses
-        (acts (ofAct act)) id authority place mark offered.now (readFrom flat.now 0 n) store.old
+        (acts (of_act act)) id authority place mark offered.now (read_from flat.now 0 n) store.old
         result store.new }
 {
     match way_of(act, flat, n, store, id, offered) {
@@ -125,7 +125,7 @@ pub fn choose(
     offered: &[u64],
 ) -> Change
     ensures { as-coded.Chooses
-        (ofOperation operation) id authority place mark offered.now (readFrom flat.now 0 n) store.old
+        (of_operation operation) id authority place mark offered.now (read_from flat.now 0 n) store.old
         result store.new }
 {
     match act_of(operation) {

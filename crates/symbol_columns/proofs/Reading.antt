@@ -10,39 +10,39 @@ use native.Mathlib.Omega.{arith}
 use lib.ListN.{length, get_or}
 use borrow.Author.Tests.{lt-ltb, le-ltb}
 use Rattle.symbol_columns.specs.Record.{vacant}
-use Rattle.symbol_columns.specs.AsCoded.{row_at, readFrom, under, rowUnder}
+use Rattle.symbol_columns.specs.AsCoded.{row_at, read_from, under, row_under}
 use Rattle.symbol_columns.specs.declared.symbol.Symbol.{Symbol}
 
 -- the records from i on, of n
 abbrev pub from : List ℕ → ℕ → ℕ → List Symbol
-from ws n i = readFrom ws i (n - i)
+from ws n i = read_from ws i (n - i)
 
 -- the records from a row on: one and the rest, or none
 pub read_more : (ws : List ℕ) (n i : ℕ) → i < n →
-    readFrom ws i (n - i) ≡ row_at ws i ∷ readFrom ws (i + 1) (n - (i + 1))
-unfolding readFrom
+    read_from ws i (n - i) ≡ row_at ws i ∷ read_from ws (i + 1) (n - (i + 1))
+unfolding read_from
 read_more ws n i h =
     let e : n - i ≡ suc (n - (i + 1)) = omega arith in
-    ap (readFrom ws i) e ∙ ap (λ (k : ℕ). row_at ws i ∷ readFrom ws k (n - (i + 1))) (sym (add-one i))
+    ap (read_from ws i) e ∙ ap (λ (k : ℕ). row_at ws i ∷ read_from ws k (n - (i + 1))) (sym (add-one i))
 
-pub read-end : (ws : List ℕ) (n i : ℕ) → n ≤ i → readFrom ws i (n - i) ≡ []
-unfolding readFrom
+pub read-end : (ws : List ℕ) (n i : ℕ) → n ≤ i → read_from ws i (n - i) ≡ []
+unfolding read_from
 read-end ws n i h =
     let e : n - i ≡ 0 = omega arith in
-    ap (readFrom ws i) e
+    ap (read_from ws i) e
 
-pub read_all : (ws : List ℕ) (n : ℕ) → readFrom ws 0 (n - 0) ≡ readFrom ws 0 n
+pub read_all : (ws : List ℕ) (n : ℕ) → read_from ws 0 (n - 0) ≡ read_from ws 0 n
 read_all ws n =
     let e : n - 0 ≡ n = omega arith in
-    ap (readFrom ws 0) e
+    ap (read_from ws 0) e
 
-pub length-read : (ws : List ℕ) (i n : ℕ) → length (readFrom ws i n) ≡ n
-unfolding readFrom
+pub length-read : (ws : List ℕ) (i n : ℕ) → length (read_from ws i n) ≡ n
+unfolding read_from
 length-read ws i zero = refl
 length-read ws i (suc n) = ap suc (length-read ws (suc i) n)
 
-pub get_d_read : (ws : List ℕ) (i n k : ℕ) → k < n → get_or (readFrom ws i n) k vacant ≡ row_at ws (i + k)
-unfolding readFrom
+pub get_d_read : (ws : List ℕ) (i n k : ℕ) → k < n → get_or (read_from ws i n) k vacant ≡ row_at ws (i + k)
+unfolding read_from
 get_d_read ws i zero k h = absurd (not-suc-le-zero h)
 get_d_read ws i (suc n) zero h =
     let e : i ≡ i + 0 = omega arith in
@@ -51,31 +51,31 @@ get_d_read ws i (suc n) (suc k) h =
     let e : suc i + k ≡ i + suc k = omega arith in
     get_d_read ws (suc i) n k (omega arith) ∙ ap (row_at ws) e
 
-last_row : (ws : List ℕ) (i k : ℕ) → readFrom ws i (suc k) ≡ readFrom ws i k ++ (row_at ws (i + k) ∷ [])
-unfolding readFrom
+last_row : (ws : List ℕ) (i k : ℕ) → read_from ws i (suc k) ≡ read_from ws i k ++ (row_at ws (i + k) ∷ [])
+unfolding read_from
 last_row ws i zero =
     let e : i ≡ i + 0 = omega arith in
     ap (λ (j : ℕ). row_at ws j ∷ []) e
 last_row ws i (suc k) =
     let e : suc i + k ≡ i + suc k = omega arith in
-    ap (λ (l : List Symbol). row_at ws i ∷ l) (last_row ws (suc i) k ∙ ap (λ (j : ℕ). readFrom ws (suc i) k ++ (row_at ws j ∷ [])) e)
+    ap (λ (l : List Symbol). row_at ws i ∷ l) (last_row ws (suc i) k ∙ ap (λ (j : ℕ). read_from ws (suc i) k ++ (row_at ws j ∷ [])) e)
 
-pub read-last : (ws : List ℕ) (i k : ℕ) → readFrom ws i (k + 1) ≡ readFrom ws i k ++ (row_at ws (i + k) ∷ [])
-read-last ws i k = ap (readFrom ws i) (add-one k) ∙ last_row ws i k
+pub read-last : (ws : List ℕ) (i k : ℕ) → read_from ws i (k + 1) ≡ read_from ws i k ++ (row_at ws (i + k) ∷ [])
+read-last ws i k = ap (read_from ws i) (add-one k) ∙ last_row ws i k
 
 -- a row under an id
-pub row_in : (ws : List ℕ) (i id : ℕ) (s : Symbol) → i < 128 → s ≡ under id (row_at ws i) → s ≡ rowUnder ws i id
-unfolding rowUnder
+pub row_in : (ws : List ℕ) (i id : ℕ) (s : Symbol) → i < 128 → s ≡ under id (row_at ws i) → s ≡ row_under ws i id
+unfolding row_under
 row_in ws i id s h e = e ∙ sym (ap (λ (t : Bool). cond t (under id (row_at ws i)) (under id vacant)) (lt-ltb i 128 h))
 
-pub row-past : (ws : List ℕ) (i id : ℕ) (s : Symbol) → 128 ≤ i → s ≡ under id vacant → s ≡ rowUnder ws i id
-unfolding rowUnder
+pub row-past : (ws : List ℕ) (i id : ℕ) (s : Symbol) → 128 ≤ i → s ≡ under id vacant → s ≡ row_under ws i id
+unfolding row_under
 row-past ws i id s h e = e ∙ sym (ap (λ (t : Bool). cond t (under id (row_at ws i)) (under id vacant)) (le-ltb i 128 h))
 
 -- a row under its own id is its record
-pub row-found : (flat : List ℕ) (n id k : ℕ) (s : Symbol) → n ≤ 128 → k < n → (get_or (readFrom flat 0 n) k vacant).id ≡ id →
-    s ≡ rowUnder flat k id → s ≡ get_or (readFrom flat 0 n) k vacant
-unfolding rowUnder row_at
+pub row-found : (flat : List ℕ) (n id k : ℕ) (s : Symbol) → n ≤ 128 → k < n → (get_or (read_from flat 0 n) k vacant).id ≡ id →
+    s ≡ row_under flat k id → s ≡ get_or (read_from flat 0 n) k vacant
+unfolding row_under row_at
 row-found flat n id k s few h has q =
     let below : k < 128 = omega arith in
     let here = get_d_read flat 0 n k h ∙ ap (row_at flat) (zero-add k) in

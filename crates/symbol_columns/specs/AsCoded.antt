@@ -15,26 +15,26 @@ places = 256
 abbrev pub states : ℕ
 states = 384
 
-abbrev pub layerCounts : ℕ
-layerCounts = 512
+abbrev pub layer_counts : ℕ
+layer_counts = 512
 
 abbrev pub marks : ℕ
 marks = 640
 
 -- All six.
-abbrev pub columnWords : ℕ
-columnWords = 768
+abbrev pub column_words : ℕ
+column_words = 768
 
 -- A record's row in the columns: written there, and read.
 abbrev pub bit : Bool → ℕ
 bit b = cond b 1 0
 
-abbrev pub sixSet : List ℕ → ℕ → Symbol → List ℕ
-sixSet ws i s =
-    set (set (set (set (set (set ws i s.id) (i + authorities) (bit s.authority)) (i + places) s.place) (i + states) s.state) (i + layerCounts) s.layers) (i + marks) s.mark
+abbrev pub six_set : List ℕ → ℕ → Symbol → List ℕ
+six_set ws i s =
+    set (set (set (set (set (set ws i s.id) (i + authorities) (bit s.authority)) (i + places) s.place) (i + states) s.state) (i + layer_counts) s.layers) (i + marks) s.mark
 
-unfoldable pub putRow : List ℕ → ℕ → Symbol → List ℕ
-putRow ws i s = cond (ltb i limit.records) (sixSet ws i s) ws
+unfoldable pub put_row : List ℕ → ℕ → Symbol → List ℕ
+put_row ws i s = cond (ltb i limit.records) (six_set ws i s) ws
 
 -- The record in row i; and the k records from row i on.
 unfoldable pub row_at : List ℕ → ℕ → Symbol
@@ -44,17 +44,17 @@ row_at ws i =
       authority = eqb (get_or ws (i + authorities) 0) 1;
       place = get_or ws (i + places) 0;
       state = get_or ws (i + states) 0;
-      layers = get_or ws (i + layerCounts) 0;
+      layers = get_or ws (i + layer_counts) 0;
       mark = get_or ws (i + marks) 0;
     }
 
-unfoldable pub readFrom : List ℕ → ℕ → ℕ → List Symbol
-readFrom ws i zero = []
-readFrom ws i (suc k) = row_at ws i ∷ readFrom ws (suc i) k
+unfoldable pub read_from : List ℕ → ℕ → ℕ → List Symbol
+read_from ws i zero = []
+read_from ws i (suc k) = row_at ws i ∷ read_from ws (suc i) k
 
 -- The record in row i under an id; past the last row, a free one.
 abbrev pub under : ℕ → Symbol → Symbol
 under id s = record { id = id; authority = s.authority; place = s.place; state = s.state; layers = s.layers; mark = s.mark }
 
-unfoldable pub rowUnder : List ℕ → ℕ → ℕ → Symbol
-rowUnder ws i id = cond (ltb i limit.records) (under id (row_at ws i)) (under id vacant)
+unfoldable pub row_under : List ℕ → ℕ → ℕ → Symbol
+row_under ws i id = cond (ltb i limit.records) (under id (row_at ws i)) (under id vacant)

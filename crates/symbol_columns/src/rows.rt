@@ -14,7 +14,7 @@ fn bit(b: bool) -> u64
 // Writes a record's six words into the six columns, at its row, if there is one: ids, authorities, places, states, layer
 // counts, marks, 128 words each.
 pub fn put_row(flat: &mut Columns, i: usize, s: Symbol)
-    ensures { flat.new ≡ rows.putRow flat.old i s }
+    ensures { flat.new ≡ rows.put_row flat.old i s }
 {
     if i < Limit::RECORDS {
         flat[i] = s.id as u64;
@@ -28,7 +28,7 @@ pub fn put_row(flat: &mut Columns, i: usize, s: Symbol)
 
 // The record of a row, under an id; past the last row, a free one.
 pub fn row(flat: &Columns, i: usize, id: u32) -> Symbol
-    ensures { result ≡ rows.rowUnder flat.now i id }
+    ensures { result ≡ rows.row_under flat.now i id }
 {
     if i < Limit::RECORDS {
         Symbol {

@@ -1,11 +1,11 @@
 ghost use Rattle.std.specs.Prelude.{◌≡◌};
-ghost use Rattle.symbol_columns.specs.StoredWords.{slotWords, storedWords};
+ghost use Rattle.symbol_columns.specs.StoredWords.{slot_words, stored_words};
 
 use type_numbers::Limit;
 
 // The words of a slot, in the store itself; those of them that are there.
 pub fn slot_words(store: &[u64], k: usize) -> &[u64]
-    ensures { result.now ≡ slotWords store.now k }
+    ensures { result.now ≡ slot_words store.now k }
 {
     if k > store.len() / Limit::SLOT_WORDS {
         return &store[..0];
@@ -19,7 +19,7 @@ pub fn slot_words(store: &[u64], k: usize) -> &[u64]
 
 // The words of a stored type, which stand first in its slot; no words where they are not there.
 pub fn stored_words(words: &[u64], layers: u64) -> &[u64]
-    ensures { result.now ≡ storedWords layers words.now }
+    ensures { result.now ≡ stored_words layers words.now }
 {
     if layers > (words.len() / 3) as u64 {
         return &words[..0];

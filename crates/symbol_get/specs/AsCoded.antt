@@ -6,8 +6,8 @@ use Rattle.symbol_get.specs.declared.get.Got as coded
 use Rattle.symbol_get.specs.declared.get.Got.TheVariants as code
 
 -- What each of the code's answers is.
-abbrev pub ofGot : coded.Got → Got
-ofGot code.Absent = got'.absent
-ofGot (code.Typed k) = got'.typed k
-ofGot (code.Poisoned m) = got'.poisoned m
-ofGot (code.Refused n p) = got'.refused n p
+abbrev pub of_got : coded.Got → Got
+of_got code.Absent = got'.absent
+of_got (code.Typed k) = got'.typed k
+of_got (code.Poisoned m) = got'.poisoned m
+of_got (code.Refused n p) = got'.refused n p

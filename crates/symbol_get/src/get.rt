@@ -1,5 +1,5 @@
 ghost use Rattle.std.specs.Prelude.{◌≡◌};
-ghost use Rattle.symbol_columns.specs.AsCoded.{readFrom};
+ghost use Rattle.symbol_columns.specs.AsCoded.{read_from};
 ghost use Rattle.symbol_get.specs.Get as rules;
 ghost use Rattle.symbol_get.specs.AsCoded as as-coded;
 
@@ -19,13 +19,13 @@ pub enum Got {
 }
 
 fn mark_for(authority: bool, mark: u64) -> u64
-    ensures { result ≡ rules.markFor authority mark }
+    ensures { result ≡ rules.mark_for authority mark }
 {
     if authority { mark } else { 0 }
 }
 
 fn look(flat: &Columns, n: usize, store: &[u64], id: u32, authority: bool) -> Got
-    ensures { as-coded.ofGot result ≡ rules.got id authority (readFrom flat.now 0 n) store.now }
+    ensures { as-coded.of_got result ≡ rules.got id authority (read_from flat.now 0 n) store.now }
 {
     if !in_order(flat, n, store) {
         return Got::Refused {
@@ -47,8 +47,8 @@ fn look(flat: &Columns, n: usize, store: &[u64], id: u32, authority: bool) -> Go
 
 // The slot or the mark goes where it was lent; without one, what stood there stays.
 fn tell(got: Got, found: &mut u64) -> Answer
-    ensures answer { result ≡ rules.told (as-coded.ofGot got) }
-    ensures written { found.new ≡ rules.foundAfter (as-coded.ofGot got) found.old }
+    ensures answer { result ≡ rules.told (as-coded.of_got got) }
+    ensures written { found.new ≡ rules.found_after (as-coded.of_got got) found.old }
 {
     match got {
         Got::Absent => accepted(0),
@@ -73,7 +73,7 @@ pub fn get_among(
     authority: bool,
     found: &mut u64,
 ) -> Answer
-    ensures { rules.Tells (rules.got id authority (readFrom flat.now 0 n) store.now)
+    ensures { rules.Tells (rules.got id authority (read_from flat.now 0 n) store.now)
         result found.old found.new }
 {
     let got = look(flat, n, store, id, authority);
@@ -82,7 +82,7 @@ pub fn get_among(
 
 // The type that it has under a name, as the part of the store that holds it.
 pub fn type_among<'a>(flat: &Columns, n: usize, store: &'a [u64], id: u32) -> &'a [u64]
-    ensures { result.now ≡ rules.type_of id (readFrom flat.now 0 n) store.now }
+    ensures { result.now ≡ rules.type_of id (read_from flat.now 0 n) store.now }
 {
     match look(flat, n, store, id, true) {
         Got::Absent => &store[..0],

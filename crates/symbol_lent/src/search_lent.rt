@@ -1,5 +1,5 @@
 ghost use Rattle.std.specs.Prelude.{◌≡◌};
-ghost use Rattle.symbol_search.specs.Search.{has, slotFor};
+ghost use Rattle.symbol_search.specs.Search.{has, slot_for};
 
 use symbol_columns::Symbol;
 use type_numbers::State;
@@ -13,7 +13,7 @@ fn has_id(s: Symbol, id: u32) -> bool
 
 // The first record of a table that is taken and has the id, or the number of records.
 pub fn find_symbol(table: &[Symbol], id: u32) -> usize
-    ensures { result ≡ slotFor id table.now }
+    ensures { result ≡ slot_for id table.now }
 {
     let mut i = 0;
     while i < table.len() {

@@ -1,5 +1,5 @@
 ghost use Rattle.std.specs.Prelude.{◌≡◌};
-ghost use Rattle.symbol_members.specs.AsCoded.{memberIn};
+ghost use Rattle.symbol_members.specs.AsCoded.{member_in};
 
 use symbol_columns::{Column, Columns, slot_words, stored_words};
 use symbol_search::slot_with;
@@ -7,7 +7,7 @@ use type_numbers::{Limit, State};
 
 // The words of the type that is stored under an id; none where it is absent or poisoned.
 pub fn member<'a>(flat: &Columns, n: usize, store: &'a [u64], id: u64) -> &'a [u64]
-    ensures { result.now ≡ memberIn flat.now n store.now id }
+    ensures { result.now ≡ member_in flat.now n store.now id }
 {
     if n > Limit::RECORDS {
         return &store[..0];

@@ -3,7 +3,7 @@
 use mathlib.Core.Path.{◌≡◌, refl, ap, ◌∙◌}
 use Rattle.symbol_operations.specs.Act as act
 use Rattle.symbol_operations.specs.Operation as operation
-use Rattle.symbol_operations.specs.AsCoded.{ofAct, ofOperation, ofAsked}
+use Rattle.symbol_operations.specs.AsCoded.{of_act, of_operation, of_asked}
 use Rattle.symbol_operations.specs.declared.operation.Act.{Act}
 use Rattle.symbol_operations.specs.declared.operation.Act.TheVariants as code-act
 use Rattle.symbol_operations.specs.declared.operation.Operation.{Operation}
@@ -12,12 +12,12 @@ use Rattle.symbol_operations.specs.declared.operation.Asked.{Asked}
 use Rattle.symbol_operations.specs.declared.operation.Asked.TheVariants as asked
 
 abbrev coded-act : act.Act → Act
-coded-act act.putPoison = code-act.PutPoison
-coded-act act.putType = code-act.PutType
-coded-act act.forwardPoison = code-act.ForwardPoison
-coded-act act.forwardType = code-act.ForwardType
+coded-act act.put_poison = code-act.PutPoison
+coded-act act.put_type = code-act.PutType
+coded-act act.forward_poison = code-act.ForwardPoison
+coded-act act.forward_type = code-act.ForwardType
 
-is-act : (a : Act) → a ≡ coded-act (ofAct a)
+is-act : (a : Act) → a ≡ coded-act (of_act a)
 is-act code-act.PutPoison = refl
 is-act code-act.PutType = refl
 is-act code-act.ForwardPoison = refl
@@ -25,34 +25,34 @@ is-act code-act.ForwardType = refl
 
 -- the code's operation that an operation is
 abbrev of-act : act.Act → Operation
-of-act act.putPoison = code.PutPoison
-of-act act.putType = code.PutType
-of-act act.forwardPoison = code.ForwardPoison
-of-act act.forwardType = code.ForwardType
+of-act act.put_poison = code.PutPoison
+of-act act.put_type = code.PutType
+of-act act.forward_poison = code.ForwardPoison
+of-act act.forward_type = code.ForwardType
 
 abbrev pub coded : operation.Operation → Operation
-coded operation.putNothing = code.PutNothing
+coded operation.put_nothing = code.PutNothing
 coded (operation.acts a) = of-act a
 
-pub is-coded : (o : Operation) → o ≡ coded (ofOperation o)
+pub is-coded : (o : Operation) → o ≡ coded (of_operation o)
 is-coded code.PutNothing = refl
 is-coded code.PutPoison = refl
 is-coded code.PutType = refl
 is-coded code.ForwardPoison = refl
 is-coded code.ForwardType = refl
 
-pub coded_by : (o : Operation) (p : operation.Operation) → ofOperation o ≡ p → o ≡ coded p
+pub coded_by : (o : Operation) (p : operation.Operation) → of_operation o ≡ p → o ≡ coded p
 coded_by o p e = is-coded o ∙ ap coded e
 
 -- what an operation asks for, by the one that the code found
-pub asks : (o k : Operation) (x : Asked) → o ≡ k → ofAsked x ≡ ofOperation k → ofAsked x ≡ ofOperation o
+pub asks : (o k : Operation) (x : Asked) → o ≡ k → of_asked x ≡ of_operation k → of_asked x ≡ of_operation o
 asks o k x e q = rw e q
 
 -- the same, of what it asks for
 abbrev pub coded-asked : operation.Operation → Asked
-coded-asked operation.putNothing = asked.Nothing
+coded-asked operation.put_nothing = asked.Nothing
 coded-asked (operation.acts a) = asked.Acts (coded-act a)
 
-pub is-asked : (x : Asked) → x ≡ coded-asked (ofAsked x)
+pub is-asked : (x : Asked) → x ≡ coded-asked (of_asked x)
 is-asked asked.Nothing = refl
 is-asked (asked.Acts a) = ap asked.Acts (is-act a)

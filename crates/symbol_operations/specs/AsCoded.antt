@@ -1,7 +1,7 @@
 -- No rule, but what contracts of the code need: what each operation of the code is in the rule's terms.
 use Rattle.symbol_operations.specs.Act as act
 use Rattle.symbol_operations.specs.Act.{Act}
-use Rattle.symbol_operations.specs.Operation.{Operation, putNothing, acts}
+use Rattle.symbol_operations.specs.Operation.{Operation, put_nothing, acts}
 use Rattle.symbol_operations.specs.declared.operation.Act as coded-act
 use Rattle.symbol_operations.specs.declared.operation.Act.TheVariants as code-act
 use Rattle.symbol_operations.specs.declared.operation.Operation as coded-operation
@@ -9,19 +9,19 @@ use Rattle.symbol_operations.specs.declared.operation.Operation.TheVariants as c
 use Rattle.symbol_operations.specs.declared.operation.Asked.{Asked}
 use Rattle.symbol_operations.specs.declared.operation.Asked.TheVariants as asked
 
-abbrev pub ofAct : coded-act.Act → Act
-ofAct code-act.PutPoison = act.putPoison
-ofAct code-act.PutType = act.putType
-ofAct code-act.ForwardPoison = act.forwardPoison
-ofAct code-act.ForwardType = act.forwardType
+abbrev pub of_act : coded-act.Act → Act
+of_act code-act.PutPoison = act.put_poison
+of_act code-act.PutType = act.put_type
+of_act code-act.ForwardPoison = act.forward_poison
+of_act code-act.ForwardType = act.forward_type
 
-abbrev pub ofOperation : coded-operation.Operation → Operation
-ofOperation code.PutNothing = putNothing
-ofOperation code.PutPoison = acts act.putPoison
-ofOperation code.PutType = acts act.putType
-ofOperation code.ForwardPoison = acts act.forwardPoison
-ofOperation code.ForwardType = acts act.forwardType
+abbrev pub of_operation : coded-operation.Operation → Operation
+of_operation code.PutNothing = put_nothing
+of_operation code.PutPoison = acts act.put_poison
+of_operation code.PutType = acts act.put_type
+of_operation code.ForwardPoison = acts act.forward_poison
+of_operation code.ForwardType = acts act.forward_type
 
-abbrev pub ofAsked : Asked → Operation
-ofAsked asked.Nothing = putNothing
-ofAsked (asked.Acts a) = acts (ofAct a)
+abbrev pub of_asked : Asked → Operation
+of_asked asked.Nothing = put_nothing
+of_asked (asked.Acts a) = acts (of_act a)

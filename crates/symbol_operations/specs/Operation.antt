@@ -2,5 +2,5 @@
 use Rattle.symbol_operations.specs.Act.{Act}
 
 pub data Operation : Type 0 where
-  putNothing : Operation
+  put_nothing : Operation
   acts : Act → Operation

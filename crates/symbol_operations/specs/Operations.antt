@@ -2,7 +2,7 @@
 use Rattle.std.specs.Prelude.{Bool, true, false}
 use Rattle.symbol_operations.specs.Act as act
 use Rattle.symbol_operations.specs.Act.{Act}
-use Rattle.symbol_operations.specs.Operation.{Operation, putNothing, acts}
+use Rattle.symbol_operations.specs.Operation.{Operation, put_nothing, acts}
 use Rattle.symbol_operations.specs.declared.operation.Offer.{Offer}
 use Rattle.symbol_operations.specs.declared.operation.Offer.TheVariants as offer
 use Rattle.symbol_operations.specs.declared.operation.Declared.{Declared}
@@ -10,17 +10,17 @@ use Rattle.symbol_operations.specs.declared.operation.Declared.TheVariants as de
 
 -- Put is of nothing, poison or a type; a forward declaration of poison or a type.
 abbrev pub put : Offer → Operation
-put offer.Nothing = putNothing
-put offer.Poison = acts act.putPoison
-put offer.Type = acts act.putType
+put offer.Nothing = put_nothing
+put offer.Poison = acts act.put_poison
+put offer.Type = acts act.put_type
 
 abbrev pub forward : Declared → Operation
-forward declared.Poison = acts act.forwardPoison
-forward declared.Type = acts act.forwardType
+forward declared.Poison = acts act.forward_poison
+forward declared.Type = acts act.forward_type
 
 -- Whether it has a type: of poison there is none.
-abbrev pub offersType : Act → Bool
-offersType act.putPoison = false
-offersType act.putType = true
-offersType act.forwardPoison = false
-offersType act.forwardType = true
+abbrev pub offers_type : Act → Bool
+offers_type act.put_poison = false
+offers_type act.put_type = true
+offers_type act.forward_poison = false
+offers_type act.forward_type = true

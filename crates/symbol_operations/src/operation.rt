@@ -44,7 +44,7 @@ pub enum Declared {
 }
 
 pub fn put(offer: Offer) -> Operation
-    ensures { as-coded.ofOperation result ≡ rules.put offer }
+    ensures { as-coded.of_operation result ≡ rules.put offer }
 {
     match offer {
         Offer::Nothing => Operation::PutNothing,
@@ -54,7 +54,7 @@ pub fn put(offer: Offer) -> Operation
 }
 
 pub fn forward(declared: Declared) -> Operation
-    ensures { as-coded.ofOperation result ≡ rules.forward declared }
+    ensures { as-coded.of_operation result ≡ rules.forward declared }
 {
     match declared {
         Declared::Poison => Operation::ForwardPoison,
@@ -63,7 +63,7 @@ pub fn forward(declared: Declared) -> Operation
 }
 
 pub fn act_of(operation: Operation) -> Asked
-    ensures { as-coded.ofAsked result ≡ as-coded.ofOperation operation }
+    ensures { as-coded.of_asked result ≡ as-coded.of_operation operation }
 {
     match operation {
         Operation::PutNothing => Asked::Nothing,
@@ -75,7 +75,7 @@ pub fn act_of(operation: Operation) -> Asked
 }
 
 pub fn offers_type(act: Act) -> bool
-    ensures { result ≡ rules.offersType (as-coded.ofAct act) }
+    ensures { result ≡ rules.offers_type (as-coded.of_act act) }
 {
     match act {
         Act::PutPoison => false,

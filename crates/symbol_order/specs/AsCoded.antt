@@ -2,7 +2,7 @@
 use Rattle.std.specs.Prelude.{◌≡◌, Bool, true, false, cond, List, ℕ, ◌%◌, ◌<◌, leb, get_or}
 use Rattle.symbol_columns.specs.declared.symbol.Symbol.{Symbol}
 use Rattle.symbol_columns.specs.Record.{free}
-use Rattle.symbol_order.specs.Order.{hasId, passes}
+use Rattle.symbol_order.specs.Order.{has_id, passes}
 
 -- A free record can stand anywhere; a taken one not after a free one (`after`), of a known state, under an id that none
 -- before it has, and with words that pass.
@@ -11,7 +11,7 @@ stands after before s words =
     cond (free s) true
     (cond after false
     (cond (leb s.state 2)
-    (cond (hasId s.id before) false (passes s.state s.layers words))
+    (cond (has_id s.id before) false (passes s.state s.layers words))
     false))
 
 -- The ids of the first k rows are noted, by their remainder by 512.

@@ -1,6 +1,6 @@
 ghost use Rattle.std.specs.Prelude.{◌≡◌, ◌≤◌, ◌<◌, get_or};
 ghost use Rattle.type_numbers.specs.Limit as limit;
-ghost use Rattle.symbol_columns.specs.AsCoded.{row_at, readFrom};
+ghost use Rattle.symbol_columns.specs.AsCoded.{row_at, read_from};
 ghost use Rattle.symbol_order.specs.Order as order;
 ghost use Rattle.symbol_order.specs.AsCoded.{Noted, stands};
 
@@ -11,7 +11,7 @@ use type_numbers::{Limit, State};
 // Whether one of the first k records has an id. No early exit, so that the ids are compared side by side.
 fn has_id(flat: &Columns, k: usize, id: u64) -> bool
     requires { k ≤ limit.records }
-    ensures { result ≡ order.hasId id (readFrom flat.now 0 k) }
+    ensures { result ≡ order.has_id id (read_from flat.now 0 k) }
 {
     let mut hit = false;
     let mut i = 0;
@@ -26,7 +26,7 @@ fn has_id(flat: &Columns, k: usize, id: u64) -> bool
 // not noted is new, and only one that is noted has to be compared.
 fn repeats(flat: &Columns, k: usize, noted: &[bool; 512]) -> bool
     requires { (k < limit.records) × Noted noted.now flat.now k }
-    ensures { result ≡ order.hasId (get_or flat.now k 0) (readFrom flat.now 0 k) }
+    ensures { result ≡ order.has_id (get_or flat.now k 0) (read_from flat.now 0 k) }
 {
     let id = flat[k];
     if noted[(id % 512) as usize] {
@@ -49,7 +49,7 @@ fn passes(state: u64, layers: u64, words: &[u64]) -> bool
 // Whether the record of row k can stand after those before it, one of which is free or none.
 fn stands_after(flat: &Columns, k: usize, noted: &[bool; 512], free: bool, words: &[u64]) -> bool
     requires { (k < limit.records) × Noted noted.now flat.now k }
-    ensures { result ≡ stands free (readFrom flat.now 0 k) (row_at flat.now k) words.now }
+    ensures { result ≡ stands free (read_from flat.now 0 k) (row_at flat.now k) words.now }
 {
     let state = flat[k + Column::STATE];
     if state == State::FREE {
@@ -70,7 +70,7 @@ fn stands_after(flat: &Columns, k: usize, noted: &[bool; 512], free: bool, words
 // Whether the table of the first n rows is in order with its store. One pass, which ends at the first record that cannot
 // stand after those before it.
 pub fn in_order(flat: &Columns, n: usize, store: &[u64]) -> bool
-    ensures { result ≡ order.inOrder (readFrom flat.now 0 n) store.now }
+    ensures { result ≡ order.in_order (read_from flat.now 0 n) store.now }
 {
     if n > Limit::RECORDS {
         return false;

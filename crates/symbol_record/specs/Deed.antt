@@ -6,10 +6,10 @@ use Rattle.write_words.specs.Written.{written}
 use Rattle.symbol_columns.specs.declared.symbol.Symbol.{Symbol}
 use Rattle.write_answer.specs.declared.answer.Answer.{Answer}
 use Rattle.write_answer.specs.Flat.{accepted}
-use Rattle.symbol_update.specs.Update.{typed, updated, wordsAfter}
+use Rattle.symbol_update.specs.Update.{typed, updated, words_after}
 use Rattle.symbol_operations.specs.Act as act
 use Rattle.symbol_operations.specs.Act.{Act}
-use Rattle.symbol_operations.specs.Operations.{offersType}
+use Rattle.symbol_operations.specs.Operations.{offers_type}
 
 -- "Poisoning sets the layer count to 0; writing a type sets the mark to 0."
 abbrev pub poisoned : ℕ → Bool → ℕ → ℕ → Symbol
@@ -28,18 +28,18 @@ deed s ws a = record { symbol = s; words = ws; answer = a }
 -- To a record that has the id. A put of a type is an update. "Put of poison: poisons, identifier kept". "Forward
 -- declaration overwrites".
 abbrev pub overwrites : Act → Symbol → List ℕ → ℕ → Bool → ℕ → ℕ → List ℕ → Deed
-overwrites act.putPoison s ws id authority place mark offered =
+overwrites act.put_poison s ws id authority place mark offered =
     deed (poisoned s.id s.authority s.place mark) ws (accepted effect.overwritten)
-overwrites act.putType s ws id authority place mark offered =
-    deed (updated s ws id authority place offered).symbol (wordsAfter s ws authority offered) (updated s ws id authority place offered).answer
-overwrites act.forwardPoison s ws id authority place mark offered =
+overwrites act.put_type s ws id authority place mark offered =
+    deed (updated s ws id authority place offered).symbol (words_after s ws authority offered) (updated s ws id authority place offered).answer
+overwrites act.forward_poison s ws id authority place mark offered =
     deed (poisoned id authority place mark) ws (accepted effect.overwritten)
-overwrites act.forwardType s ws id authority place mark offered =
+overwrites act.forward_type s ws id authority place mark offered =
     deed (typed id authority place offered) (written offered ws) (accepted effect.overwritten)
 
 -- A record that is made anew, and its words: of a type, or of poison.
 abbrev pub filled : Act → ℕ → Bool → ℕ → ℕ → List ℕ → Symbol
-filled a id authority place mark offered = cond (offersType a) (typed id authority place offered) (poisoned id authority place mark)
+filled a id authority place mark offered = cond (offers_type a) (typed id authority place offered) (poisoned id authority place mark)
 
-abbrev pub filledWords : Act → List ℕ → List ℕ → List ℕ
-filledWords a offered ws = cond (offersType a) (written offered ws) ws
+abbrev pub filled_words : Act → List ℕ → List ℕ → List ℕ
+filled_words a offered ws = cond (offers_type a) (written offered ws) ws

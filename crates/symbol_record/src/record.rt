@@ -1,5 +1,5 @@
 ghost use Rattle.std.specs.Prelude.{◌≡◌};
-ghost use Rattle.symbol_operations.specs.AsCoded.{ofAct};
+ghost use Rattle.symbol_operations.specs.AsCoded.{of_act};
 ghost use Rattle.symbol_record.specs.Deed as rules;
 ghost use Rattle.symbol_record.specs.AsCoded as as-coded;
 
@@ -33,8 +33,8 @@ pub fn fill(
     mark: u64,
     offered: &[u64],
 ) -> Symbol
-    ensures { (result ≡ rules.filled (ofAct act) id authority place mark offered.now)
-        × (words.new ≡ rules.filledWords (ofAct act) offered.now words.old) }
+    ensures { (result ≡ rules.filled (of_act act) id authority place mark offered.now)
+        × (words.new ≡ rules.filled_words (of_act act) offered.now words.old) }
 {
     if offers_type(act) {
         write_words(words, offered);
@@ -56,7 +56,7 @@ pub fn overwrite(
     offered: &[u64],
 ) -> Updated
     ensures { as-coded.Does
-        (rules.overwrites (ofAct act) s words.old id authority place mark offered.now)
+        (rules.overwrites (of_act act) s words.old id authority place mark offered.now)
         result words.new }
 {
     match act {

@@ -1,12 +1,12 @@
 -- No rule, but what contracts of the code need: the search in columns.
 use Rattle.std.specs.Prelude.{cond, List, ℕ, ltb}
 use Rattle.type_numbers.specs.Limit as limit
-use Rattle.symbol_columns.specs.AsCoded.{readFrom}
-use Rattle.symbol_search.specs.Search.{firstFree, slotFor}
+use Rattle.symbol_columns.specs.AsCoded.{read_from}
+use Rattle.symbol_search.specs.Search.{first_free, slot_for}
 
--- `firstFree` and `slotFor` of a table in columns: of more than 128 rows, their number.
-unfoldable pub freeIn : List ℕ → ℕ → ℕ
-freeIn ws n = cond (ltb limit.records n) n (firstFree (readFrom ws 0 n))
+-- `first_free` and `slot_for` of a table in columns: of more than 128 rows, their number.
+unfoldable pub free_in : List ℕ → ℕ → ℕ
+free_in ws n = cond (ltb limit.records n) n (first_free (read_from ws 0 n))
 
-unfoldable pub slotIn : List ℕ → ℕ → ℕ → ℕ
-slotIn ws n id = cond (ltb limit.records n) n (slotFor id (readFrom ws 0 n))
+unfoldable pub slot_in : List ℕ → ℕ → ℕ → ℕ
+slot_in ws n id = cond (ltb limit.records n) n (slot_for id (read_from ws 0 n))

@@ -4,15 +4,15 @@ use Rattle.symbol_columns.specs.declared.symbol.Symbol.{Symbol}
 use Rattle.symbol_columns.specs.Record.{free}
 
 -- The first free record, or the number of records.
-unfoldable pub firstFree : List Symbol → ℕ
-firstFree [] = 0
-firstFree (s ∷ table) = cond (free s) 0 (suc (firstFree table))
+unfoldable pub first_free : List Symbol → ℕ
+first_free [] = 0
+first_free (s ∷ table) = cond (free s) 0 (suc (first_free table))
 
 -- Whether a record is taken and has the id.
 abbrev pub has : ℕ → Symbol → Bool
 has id s = eqb s.id id && not (free s)
 
 -- The first taken record that has the id, or the number of records.
-unfoldable pub slotFor : ℕ → List Symbol → ℕ
-slotFor id [] = 0
-slotFor id (s ∷ table) = cond (has id s) 0 (suc (slotFor id table))
+unfoldable pub slot_for : ℕ → List Symbol → ℕ
+slot_for id [] = 0
+slot_for id (s ∷ table) = cond (has id s) 0 (suc (slot_for id table))

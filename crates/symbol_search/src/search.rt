@@ -1,12 +1,12 @@
 ghost use Rattle.std.specs.Prelude.{◌≡◌};
-ghost use Rattle.symbol_search.specs.AsCoded.{freeIn, slotIn};
+ghost use Rattle.symbol_search.specs.AsCoded.{free_in, slot_in};
 
 use symbol_columns::{Column, Columns};
 use type_numbers::{Limit, State};
 
 // The first of n records that is free, or n.
 pub fn first_free(flat: &Columns, n: usize) -> usize
-    ensures { result ≡ freeIn flat.now n }
+    ensures { result ≡ free_in flat.now n }
 {
     if n > Limit::RECORDS {
         return n;
@@ -23,7 +23,7 @@ pub fn first_free(flat: &Columns, n: usize) -> usize
 
 // The first of n records that is taken and has the id, or n.
 pub fn slot_with(flat: &Columns, n: usize, wanted: u64) -> usize
-    ensures { result ≡ slotIn flat.now n wanted }
+    ensures { result ≡ slot_in flat.now n wanted }
 {
     if n > Limit::RECORDS {
         return n;
@@ -40,7 +40,7 @@ pub fn slot_with(flat: &Columns, n: usize, wanted: u64) -> usize
 
 // The same, of an id as a record has it.
 pub fn slot_of(flat: &Columns, n: usize, id: u32) -> usize
-    ensures { result ≡ slotIn flat.now n id }
+    ensures { result ≡ slot_in flat.now n id }
 {
     slot_with(flat, n, id as u64)
 }

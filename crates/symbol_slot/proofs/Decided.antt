@@ -7,61 +7,61 @@ use Prim.Native.Nat.{ℕ, ◌≤◌, ◌<◌}
 use lib.Dec.{ltb}
 use lib.ListN.{length, get_or}
 use borrow.Author.Tests.{lt-ltb, le-ltb, ltb-true, ltb-false, not-true, not-false}
-use Rattle.type_layers.specs.Answer.{Answer, ofChecked, given, nothing, refused}
-use Rattle.type_checks.specs.Check.{checkOf}
+use Rattle.type_layers.specs.Answer.{Answer, of_checked, given, nothing, refused}
+use Rattle.type_checks.specs.Check.{check_of}
 use Rattle.type_layers.specs.declared.answers.Checked.{Checked}
 use Rattle.type_layers.specs.declared.answers.Checked.TheVariants as checked
 use Rattle.symbol_columns.specs.declared.symbol.Symbol.{Symbol}
 use Rattle.symbol_columns.specs.Record.{vacant}
-use Rattle.symbol_columns.specs.AsCoded.{readFrom}
-use Rattle.symbol_search.specs.Search.{slotFor, firstFree}
-use Rattle.symbol_search.specs.AsCoded.{slotIn, freeIn}
+use Rattle.symbol_columns.specs.AsCoded.{read_from}
+use Rattle.symbol_search.specs.Search.{slot_for, first_free}
+use Rattle.symbol_search.specs.AsCoded.{slot_in, free_in}
 use Rattle.symbol_columns.proofs.Reading.{length-read}
 use Rattle.symbol_search.proofs.Searching.{slot_has}
-use Rattle.symbol_order.specs.Order.{inOrder}
+use Rattle.symbol_order.specs.Order.{in_order}
 use Rattle.symbol_order.proofs.Ordered.{Ordered, ordered, slot-there, free-there}
 use Rattle.symbol_operations.specs.Act.{Act}
-use Rattle.symbol_operations.specs.Operations.{offersType}
+use Rattle.symbol_operations.specs.Operations.{offers_type}
 use Rattle.symbol_slot.specs.Way as way
 use Rattle.symbol_slot.specs.Way.{Way}
-use Rattle.symbol_slot.specs.Slot.{offeredCheck, place_of, unless, way_of}
+use Rattle.symbol_slot.specs.Slot.{offered_check, place_of, unless, way_of}
 
 -- the checks of what is offered
-module _ (a : Act) (offered : List ℕ) (r : Checked) (t : Bool) (e : t ≡ offersType a) where
-  pub type-checked : t ≡ true → ofChecked r ≡ checkOf offered → ofChecked r ≡ offeredCheck a offered
+module _ (a : Act) (offered : List ℕ) (r : Checked) (t : Bool) (e : t ≡ offers_type a) where
+  pub type-checked : t ≡ true → of_checked r ≡ check_of offered → of_checked r ≡ offered_check a offered
   type-checked h q = rw (← e, h) q
 
-  pub none-checked : t ≡ false → ofChecked r ≡ given 0 → ofChecked r ≡ offeredCheck a offered
+  pub none-checked : t ≡ false → of_checked r ≡ given 0 → of_checked r ≡ offered_check a offered
   none-checked h q = rw (← e, h) q
 
 -- the record's place
-module _ (ws w : List ℕ) (n id : ℕ) (o : Bool) (e : o ≡ inOrder (readFrom ws 0 n) w) where
-  pub out_of_order : not o ≡ true → way.refused 12 0 ≡ place_of id (readFrom ws 0 n) w
+module _ (ws w : List ℕ) (n id : ℕ) (o : Bool) (e : o ≡ in_order (read_from ws 0 n) w) where
+  pub out_of_order : not o ≡ true → way.refused 12 0 ≡ place_of id (read_from ws 0 n) w
   unfolding place_of
   out_of_order f = rw (← e, not-true o f)
 
-  module _ (f : not o ≡ false) (k : ℕ) (q : k ≡ slotIn ws n id) where
-    k-is : k ≡ slotFor id (readFrom ws 0 n)
+  module _ (f : not o ≡ false) (k : ℕ) (q : k ≡ slot_in ws n id) where
+    k-is : k ≡ slot_for id (read_from ws 0 n)
     k-is = slot-there ws w n (sym e ∙ not-false o f) id k q
 
-    pub found-there : k < n → way.found k ≡ place_of id (readFrom ws 0 n) w
+    pub found-there : k < n → way.found k ≡ place_of id (read_from ws 0 n) w
     unfolding place_of
     found-there h = rw (← e, not-false o f, ← k-is, length-read ws 0 n, lt-ltb k n h)
 
-    module _ (h : n ≤ k) (j : ℕ) (p : j ≡ freeIn ws n) where
-      j-is : j ≡ firstFree (readFrom ws 0 n)
+    module _ (h : n ≤ k) (j : ℕ) (p : j ≡ free_in ws n) where
+      j-is : j ≡ first_free (read_from ws 0 n)
       j-is = free-there ws w n (sym e ∙ not-false o f) j p
 
-      pub room-there : j < n → way.free j ≡ place_of id (readFrom ws 0 n) w
+      pub room-there : j < n → way.free j ≡ place_of id (read_from ws 0 n) w
       unfolding place_of
       room-there i = rw (← e, not-false o f, ← k-is, length-read ws 0 n, le-ltb k n h, ← j-is, lt-ltb j n i)
 
-      pub none_free : n ≤ j → way.refused 13 0 ≡ place_of id (readFrom ws 0 n) w
+      pub none_free : n ≤ j → way.refused 13 0 ≡ place_of id (read_from ws 0 n) w
       unfolding place_of
       none_free i = rw (← e, not-false o f, ← k-is, length-read ws 0 n, le-ltb k n h, ← j-is, le-ltb j n i)
 
 -- after the checks of what is offered
-module _ (a : Act) (id : ℕ) (offered : List ℕ) (table : List Symbol) (w : List ℕ) (x : Checked) (e : ofChecked x ≡ offeredCheck a offered) where
+module _ (a : Act) (id : ℕ) (offered : List ℕ) (table : List Symbol) (w : List ℕ) (x : Checked) (e : of_checked x ≡ offered_check a offered) where
   pub offer-refused : (n p : ℕ) → x ≡ checked.Refused n p → way.refused n p ≡ way_of a id offered table w
   unfolding way_of
   offer-refused n p h = rw (← e, h)
@@ -71,44 +71,44 @@ module _ (a : Act) (id : ℕ) (offered : List ℕ) (table : List Symbol) (w : Li
   offer-good n r h q = rw (← e, h) q
 
 -- what is known of a slot that was chosen
-abbrev isFound : Way → Bool
-isFound (way.refused n p) = false
-isFound (way.found k) = true
-isFound (way.free k) = false
+abbrev is_found : Way → Bool
+is_found (way.refused n p) = false
+is_found (way.found k) = true
+is_found (way.free k) = false
 
-abbrev isFree : Way → Bool
-isFree (way.refused n p) = false
-isFree (way.found k) = false
-isFree (way.free k) = true
+abbrev is_free : Way → Bool
+is_free (way.refused n p) = false
+is_free (way.found k) = false
+is_free (way.free k) = true
 
-abbrev slotIn-way : Way → ℕ
-slotIn-way (way.refused n p) = 0
-slotIn-way (way.found k) = k
-slotIn-way (way.free k) = k
+abbrev slot_in-way : Way → ℕ
+slot_in-way (way.refused n p) = 0
+slot_in-way (way.found k) = k
+slot_in-way (way.free k) = k
 
-abbrev pub notRefused : Answer ℕ → Bool
-notRefused (given n) = true
-notRefused nothing = true
-notRefused (refused n p) = false
+abbrev pub not_refused : Answer ℕ → Bool
+not_refused (given n) = true
+not_refused nothing = true
+not_refused (refused n p) = false
 
 abbrev chosen : Bool → Bool → Bool → ℕ → ℕ → Way
 chosen o t u i j = cond o (cond t (way.found i) (cond u (way.free j) (way.refused 13 0))) (way.refused 12 0)
 
 found-way : (o t u : Bool) (i j k : ℕ) → chosen o t u i j ≡ way.found k → (o ≡ true) × (t ≡ true) × (k ≡ i)
-found-way false t u i j k e = absurd (false≢true (ap isFound e))
-found-way true true u i j k e = (refl, refl, sym (ap slotIn-way e))
-found-way true false true i j k e = absurd (false≢true (ap isFound e))
-found-way true false false i j k e = absurd (false≢true (ap isFound e))
+found-way false t u i j k e = absurd (false≢true (ap is_found e))
+found-way true true u i j k e = (refl, refl, sym (ap slot_in-way e))
+found-way true false true i j k e = absurd (false≢true (ap is_found e))
+found-way true false false i j k e = absurd (false≢true (ap is_found e))
 
 free-way : (o t u : Bool) (i j k : ℕ) → chosen o t u i j ≡ way.free k → (o ≡ true) × (t ≡ false) × (u ≡ true) × (k ≡ j)
-free-way false t u i j k e = absurd (false≢true (ap isFree e))
-free-way true true u i j k e = absurd (false≢true (ap isFree e))
-free-way true false true i j k e = (refl, refl, refl, sym (ap slotIn-way e))
-free-way true false false i j k e = absurd (false≢true (ap isFree e))
+free-way false t u i j k e = absurd (false≢true (ap is_free e))
+free-way true true u i j k e = absurd (false≢true (ap is_free e))
+free-way true false true i j k e = (refl, refl, refl, sym (ap slot_in-way e))
+free-way true false false i j k e = absurd (false≢true (ap is_free e))
 
 -- a way that is no refusal of the offered type is the table's
 passed : (a : Answer ℕ) (w v : Way) (f : Way → Bool) → ((n p : ℕ) → f (way.refused n p) ≡ false) → f v ≡ true → unless a w ≡ v →
-    (notRefused a ≡ true) × (w ≡ v)
+    (not_refused a ≡ true) × (w ≡ v)
 passed (refused n p) w v f h g e = absurd (false≢true (sym (h n p) ∙ ap f e ∙ g))
 passed (given n) w v f h g e = (refl, e)
 passed nothing w v f h g e = (refl, e)
@@ -120,27 +120,27 @@ pub record Within (table : List Symbol) (store : List ℕ) (k : ℕ) : Type 0 wh
 
 module _ (a : Act) (id : ℕ) (offered : List ℕ) (table : List Symbol) (store : List ℕ) (k : ℕ) where
   module _ (e : way_of a id offered table store ≡ way.found k) where
-    found_after : (notRefused (offeredCheck a offered) ≡ true) × (place_of id table store ≡ way.found k)
+    found_after : (not_refused (offered_check a offered) ≡ true) × (place_of id table store ≡ way.found k)
     unfolding way_of
-    found_after = passed (offeredCheck a offered) (place_of id table store) (way.found k) isFound (λ n p. refl) refl e
+    found_after = passed (offered_check a offered) (place_of id table store) (way.found k) is_found (λ n p. refl) refl e
 
-    found-by : (inOrder table store ≡ true) × (ltb (slotFor id table) (length table) ≡ true) × (k ≡ slotFor id table)
+    found-by : (in_order table store ≡ true) × (ltb (slot_for id table) (length table) ≡ true) × (k ≡ slot_for id table)
     unfolding place_of
     found-by =
-        found-way (inOrder table store) (ltb (slotFor id table) (length table)) (ltb (firstFree table) (length table))
-        (slotFor id table) (firstFree table) k found_after.1
+        found-way (in_order table store) (ltb (slot_for id table) (length table)) (ltb (first_free table) (length table))
+        (slot_for id table) (first_free table) k found_after.1
 
-    pub found-checked : notRefused (offeredCheck a offered) ≡ true
+    pub found-checked : not_refused (offered_check a offered) ≡ true
     found-checked = found_after.0
 
-    pub found-is : k ≡ slotFor id table
+    pub found-is : k ≡ slot_for id table
     found-is = found-by.2
 
     pub found_in : Within table store k
     found_in =
         record {
           order = ordered table store found-by.0;
-          below = subst (λ (j : ℕ). j < length table) (sym found-is) (ltb-true (slotFor id table) (length table) found-by.1);
+          below = subst (λ (j : ℕ). j < length table) (sym found-is) (ltb-true (slot_for id table) (length table) found-by.1);
         }
 
     pub found-has : (get_or table k vacant).id ≡ id
@@ -149,28 +149,28 @@ module _ (a : Act) (id : ℕ) (offered : List ℕ) (table : List Symbol) (store 
         ∙ slot_has id table (subst (λ (j : ℕ). j < length table) found-is found_in.below)
 
   module _ (e : way_of a id offered table store ≡ way.free k) where
-    new-after : (notRefused (offeredCheck a offered) ≡ true) × (place_of id table store ≡ way.free k)
+    new-after : (not_refused (offered_check a offered) ≡ true) × (place_of id table store ≡ way.free k)
     unfolding way_of
-    new-after = passed (offeredCheck a offered) (place_of id table store) (way.free k) isFree (λ n p. refl) refl e
+    new-after = passed (offered_check a offered) (place_of id table store) (way.free k) is_free (λ n p. refl) refl e
 
-    new_by : (inOrder table store ≡ true) × (ltb (slotFor id table) (length table) ≡ false) × (ltb (firstFree table) (length table) ≡ true) × (k ≡ firstFree table)
+    new_by : (in_order table store ≡ true) × (ltb (slot_for id table) (length table) ≡ false) × (ltb (first_free table) (length table) ≡ true) × (k ≡ first_free table)
     unfolding place_of
     new_by =
-        free-way (inOrder table store) (ltb (slotFor id table) (length table)) (ltb (firstFree table) (length table))
-        (slotFor id table) (firstFree table) k new-after.1
+        free-way (in_order table store) (ltb (slot_for id table) (length table)) (ltb (first_free table) (length table))
+        (slot_for id table) (first_free table) k new-after.1
 
-    pub new-checked : notRefused (offeredCheck a offered) ≡ true
+    pub new-checked : not_refused (offered_check a offered) ≡ true
     new-checked = new-after.0
 
-    pub new_is : k ≡ firstFree table
+    pub new_is : k ≡ first_free table
     new_is = new_by.3
 
-    pub new-absent : length table ≤ slotFor id table
-    new-absent = ltb-false (slotFor id table) (length table) new_by.1
+    pub new-absent : length table ≤ slot_for id table
+    new-absent = ltb-false (slot_for id table) (length table) new_by.1
 
     pub new_in : Within table store k
     new_in =
         record {
           order = ordered table store new_by.0;
-          below = subst (λ (j : ℕ). j < length table) (sym new_is) (ltb-true (firstFree table) (length table) new_by.2);
+          below = subst (λ (j : ℕ). j < length table) (sym new_is) (ltb-true (first_free table) (length table) new_by.2);
         }

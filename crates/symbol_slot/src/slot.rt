@@ -1,7 +1,7 @@
 ghost use Rattle.std.specs.Prelude.{◌≡◌};
-ghost use Rattle.type_layers.specs.Answer.{ofChecked};
-ghost use Rattle.symbol_columns.specs.AsCoded.{readFrom};
-ghost use Rattle.symbol_operations.specs.AsCoded.{ofAct};
+ghost use Rattle.type_layers.specs.Answer.{of_checked};
+ghost use Rattle.symbol_columns.specs.AsCoded.{read_from};
+ghost use Rattle.symbol_operations.specs.AsCoded.{of_act};
 ghost use Rattle.symbol_slot.specs.Slot as rules;
 ghost use Rattle.symbol_slot.specs.AsCoded as as-coded;
 
@@ -23,7 +23,7 @@ pub enum Way {
 
 // The checks of the offered type, where there is one.
 fn check_offered(act: Act, offered: &[u64]) -> Checked
-    ensures { ofChecked result ≡ rules.offeredCheck (ofAct act) offered.now }
+    ensures { of_checked result ≡ rules.offered_check (of_act act) offered.now }
 {
     if offers_type(act) {
         check_type(offered)
@@ -33,7 +33,7 @@ fn check_offered(act: Act, offered: &[u64]) -> Checked
 }
 
 fn slot_for(flat: &Columns, n: usize, store: &[u64], id: u32) -> Way
-    ensures { as-coded.of_way result ≡ rules.place_of id (readFrom flat.now 0 n) store.now }
+    ensures { as-coded.of_way result ≡ rules.place_of id (read_from flat.now 0 n) store.now }
 {
     if !in_order(flat, n, store) {
         return Way::Refused {
@@ -58,7 +58,7 @@ fn slot_for(flat: &Columns, n: usize, store: &[u64], id: u32) -> Way
 // The refusals of the offered type come before those of the table.
 pub fn way_of(act: Act, flat: &Columns, n: usize, store: &[u64], id: u32, offered: &[u64]) -> Way
     ensures { as-coded.of_way result
-        ≡ rules.way_of (ofAct act) id offered.now (readFrom flat.now 0 n) store.now }
+        ≡ rules.way_of (of_act act) id offered.now (read_from flat.now 0 n) store.now }
 {
     match check_offered(act, offered) {
         Checked::Refused { number, place } => Way::Refused { number, place },

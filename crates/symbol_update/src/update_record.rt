@@ -38,7 +38,7 @@ pub fn update(
     offered: &[u64],
 ) -> Updated
     ensures answer { result ≡ rules.updated s words.old id authority place offered.now }
-    ensures written { words.new ≡ rules.wordsAfter s words.old authority offered.now }
+    ensures written { words.new ≡ rules.words_after s words.old authority offered.now }
 {
     let line = decide(
         s.state == State::POISONED,

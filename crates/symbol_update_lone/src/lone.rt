@@ -10,7 +10,7 @@ use write_answer::{Answer, checked, refused};
 
 // Whether a taken record with its words is a table of one that is in order.
 fn in_order(s: Symbol, words: &[u64]) -> bool
-    ensures { result ≡ rules.loneInOrder s words.now }
+    ensures { result ≡ rules.lone_in_order s words.now }
 {
     if words.len() != Limit::SLOT_WORDS {
         return false;
@@ -34,8 +34,8 @@ pub fn update_lone(
     place: u64,
     offered: &[u64],
 ) -> Updated
-    ensures { (result ≡ rules.loneUpdated s words.old id authority place offered.now)
-        × (words.new ≡ rules.loneWordsAfter s words.old authority offered.now) }
+    ensures { (result ≡ rules.lone_updated s words.old id authority place offered.now)
+        × (words.new ≡ rules.lone_words_after s words.old authority offered.now) }
 {
     if !is_type(offered) {
         return Updated {

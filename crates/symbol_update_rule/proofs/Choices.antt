@@ -4,7 +4,7 @@ use mathlib.Core.Path.{◌≡◌}
 use mathlib.Core.Bool.{Bool, true, false, not, ◌&&◌, ◌||◌}
 use mathlib.Core.List.{List}
 use Rattle.type_layers.specs.Layers.{Layer}
-use Rattle.type_wellformed.specs.WellFormed.{wellFormed}
+use Rattle.type_wellformed.specs.WellFormed.{well_formed}
 use Rattle.relation_equals.specs.Equals.{identical}
 use Rattle.relation_declared.specs.Declared.{declared, concretization}
 use Rattle.relation_coerces.specs.Coerces.{coerces}
@@ -17,8 +17,8 @@ module _ (p a n : Bool) (s o : List Layer) where
   unfolding line_of
   poisoned e = rw e
 
-  module _ (e : p ≡ false) (f g : Bool) (i : f ≡ wellFormed o) (j : g ≡ wellFormed s) where
-    pub ill-formed : not (f && g) ≡ true → line.illFormed ≡ line_of p a n s o
+  module _ (e : p ≡ false) (f g : Bool) (i : f ≡ well_formed o) (j : g ≡ well_formed s) where
+    pub ill-formed : not (f && g) ≡ true → line.ill_formed ≡ line_of p a n s o
     unfolding line_of
     ill-formed t = rw (e, ← i, ← j, t)
 
@@ -28,12 +28,12 @@ module _ (p a n : Bool) (s o : List Layer) where
       kept y = rw (e, ← i, ← j, t, ← u, ← v, y)
 
       module _ (y : (h || k) ≡ false) (d : Bool) (w : d ≡ declared o s) where
-        pub type-replaced : (a && d) ≡ true → line.typeReplaced ≡ line_of p a n s o
+        pub type-replaced : (a && d) ≡ true → line.type_replaced ≡ line_of p a n s o
         unfolding line_of
         type-replaced z = rw (e, ← i, ← j, t, ← u, ← v, y, ← w, z)
 
         module _ (z : (a && d) ≡ false) (b c : Bool) (x : b ≡ concretization o s) (m : c ≡ coerces o s) where
-          pub both-replaced : (n && (b || c)) ≡ true → line.bothReplaced ≡ line_of p a n s o
+          pub both-replaced : (n && (b || c)) ≡ true → line.both_replaced ≡ line_of p a n s o
           unfolding line_of
           both-replaced q = rw (e, ← i, ← j, t, ← u, ← v, y, ← w, z, ← x, ← m, q)
 

@@ -3,7 +3,7 @@
 use mathlib.Core.Path.{◌≡◌, refl, sym, ap, ◌∙◌}
 use Rattle.type_layers.proofs.Single.{Single}
 use Rattle.symbol_update_rule.specs.Line as line
-use Rattle.symbol_update_rule.specs.AsCoded.{ofLine}
+use Rattle.symbol_update_rule.specs.AsCoded.{of_line}
 use Rattle.symbol_update_rule.specs.declared.lines.Line.{Line}
 use Rattle.symbol_update_rule.specs.declared.lines.Line.TheVariants as code
 use Rattle.symbol_update_rule.proofs.lines.decide.Kinds.{ps, r}
@@ -12,13 +12,13 @@ use Rattle.symbol_update_rule.proofs.lines.decide.Reads.{Post}
 -- the code's line that a line comes from
 abbrev coded : line.Line → Line
 coded line.poisoned = code.Poisoned
-coded line.illFormed = code.IllFormed
+coded line.ill_formed = code.IllFormed
 coded line.kept = code.Kept
-coded line.typeReplaced = code.TypeReplaced
-coded line.bothReplaced = code.BothReplaced
+coded line.type_replaced = code.TypeReplaced
+coded line.both_replaced = code.BothReplaced
 coded line.conflicting = code.Conflicting
 
-is-coded : (l : Line) → l ≡ coded (ofLine l)
+is-coded : (l : Line) → l ≡ coded (of_line l)
 is-coded code.Poisoned = refl
 is-coded code.IllFormed = refl
 is-coded code.Kept = refl

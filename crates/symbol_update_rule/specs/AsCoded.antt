@@ -5,10 +5,10 @@ use Rattle.symbol_update_rule.specs.declared.lines.Line as coded
 use Rattle.symbol_update_rule.specs.declared.lines.Line.TheVariants as code
 
 -- Which line each of the code's is.
-abbrev pub ofLine : coded.Line → Line
-ofLine code.Poisoned = line.poisoned
-ofLine code.IllFormed = line.illFormed
-ofLine code.Kept = line.kept
-ofLine code.TypeReplaced = line.typeReplaced
-ofLine code.BothReplaced = line.bothReplaced
-ofLine code.Conflicting = line.conflicting
+abbrev pub of_line : coded.Line → Line
+of_line code.Poisoned = line.poisoned
+of_line code.IllFormed = line.ill_formed
+of_line code.Kept = line.kept
+of_line code.TypeReplaced = line.type_replaced
+of_line code.BothReplaced = line.both_replaced
+of_line code.Conflicting = line.conflicting

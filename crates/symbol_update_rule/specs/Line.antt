@@ -1,8 +1,8 @@
 -- The lines of the update, in the rule's order.
 pub data Line : Type 0 where
   poisoned : Line
-  illFormed : Line
+  ill_formed : Line
   kept : Line
-  typeReplaced : Line
-  bothReplaced : Line
+  type_replaced : Line
+  both_replaced : Line
   conflicting : Line

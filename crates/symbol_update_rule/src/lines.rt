@@ -1,7 +1,7 @@
 ghost use Rattle.std.specs.Prelude.{◌≡◌};
 ghost use Rattle.type_layers.specs.Layers.{layers};
 ghost use Rattle.symbol_update_rule.specs.Rule.{line_of};
-ghost use Rattle.symbol_update_rule.specs.AsCoded.{ofLine};
+ghost use Rattle.symbol_update_rule.specs.AsCoded.{of_line};
 
 use relation_coerces::coerces;
 use relation_declared::{can_be_concretization_of, can_be_declared_as};
@@ -27,7 +27,7 @@ pub fn decide(
     stored: &[u64],
     offered: &[u64],
 ) -> Line
-    ensures { ofLine result ≡ line_of poisoned authoritative newly (layers stored.now) (layers offered.now) }
+    ensures { of_line result ≡ line_of poisoned authoritative newly (layers stored.now) (layers offered.now) }
 {
     if poisoned {
         return Line::Poisoned;

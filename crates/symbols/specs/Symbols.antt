@@ -3,7 +3,7 @@
 use Rattle.std.specs.Prelude.{◌≡◌, Bool, true, List, [], ℕ}
 use Rattle.write_answer.specs.declared.answer.Answer.{Answer}
 use Rattle.symbol_columns.specs.declared.symbol.Symbol.{Symbol}
-use Rattle.symbol_order.specs.Order.{inOrder}
+use Rattle.symbol_order.specs.Order.{in_order}
 use Rattle.symbol_update_rule.specs.Line.{Line}
 use Rattle.symbol_update.specs.Update.{typed, line_at}
 use Rattle.symbol_update_lone.specs.Lone.{LoneBecomes}
@@ -28,22 +28,22 @@ Store = List ℕ
 -- "A table is in order when it has at most 128 records, states are 0 to 2, taken records precede free ones, no taken id
 -- repeats, each typed record's words pass checks 1-3, and the store has exactly 48 words for each record."
 abbrev pub InOrder : Table → Store → Type 0
-InOrder table store = inOrder table store ≡ true
+InOrder table store = in_order table store ≡ true
 
 -- "Poisoning sets the layer count to 0; writing a type sets the mark to 0."
-abbrev pub poisonedRecord : ℕ → Bool → ℕ → ℕ → Symbol
-poisonedRecord id authority place mark = poisoned id authority place mark
+abbrev pub poisoned_record : ℕ → Bool → ℕ → ℕ → Symbol
+poisoned_record id authority place mark = poisoned id authority place mark
 
-abbrev pub typedRecord : ℕ → Bool → ℕ → List ℕ → Symbol
-typedRecord id authority place words = typed id authority place words
+abbrev pub typed_record : ℕ → Bool → ℕ → List ℕ → Symbol
+typed_record id authority place words = typed id authority place words
 
 -- "An update changes the lent symbol itself, by the first line that applies: poisoned: accepted, nothing changes. Offered
 -- type, then stored type, ill formed: 4. Identical, or stored is a concretization of offered: accepted, nothing changes.
 -- Symbol authoritative and offered is declared as stored: type replaced, identifier kept. New identifier authoritative and
 -- offered is a concretization of or coerces into stored: both replaced. Else 7." Of a record, its words, the new name's
 -- authority and the offered words: which line.
-abbrev pub updateLine : Symbol → List ℕ → Bool → List ℕ → Line
-updateLine symbol words authority offered = line_at symbol words authority offered
+abbrev pub update_line : Symbol → List ℕ → Bool → List ℕ → Line
+update_line symbol words authority offered = line_at symbol words authority offered
 
 -- What is done to a table under a name: id, authority, place, the mark of poison, the words of a type.
 abbrev pub change : Operation → ℕ → Bool → ℕ → ℕ → List ℕ → Table → Store → Outcome
@@ -55,11 +55,11 @@ abbrev pub put : Offer → ℕ → Bool → ℕ → ℕ → List ℕ → Table �
 put offer id authority place mark offered table store = change (operations.put offer) id authority place mark offered table store
 
 abbrev pub poison : ℕ → Bool → ℕ → ℕ → Table → Store → Outcome
-poison id authority place mark table store = change (acts act.putPoison) id authority place mark [] table store
+poison id authority place mark table store = change (acts act.put_poison) id authority place mark [] table store
 
 -- "Forward declaration overwrites or inserts."
-abbrev pub forwardDeclare : Declared → ℕ → Bool → ℕ → ℕ → List ℕ → Table → Store → Outcome
-forwardDeclare declared id authority place mark offered table store =
+abbrev pub forward_declare : Declared → ℕ → Bool → ℕ → ℕ → List ℕ → Table → Store → Outcome
+forward_declare declared id authority place mark offered table store =
     change (operations.forward declared) id authority place mark offered table store
 
 -- "Get answers absent, the type, or the poison mark (mark 0, plain poison, when the asking name isn't authoritative)."
@@ -67,8 +67,8 @@ abbrev pub get : ℕ → Bool → Table → Store → Got
 get id authority table store = got id authority table store
 
 -- "element, pointee, viewee and symbol get return the part of the lent words that holds the inner or stored type"
-abbrev pub getType : ℕ → Table → Store → List ℕ
-getType id table store = type_of id table store
+abbrev pub get_type : ℕ → Table → Store → List ℕ
+get_type id table store = type_of id table store
 
 -- "A lone lent symbol with its words is judged as a table of one, and gets 12 if free too."
 abbrev pub UpdatesAlone : Symbol → List ℕ → ℕ → Bool → ℕ → List ℕ → Answer → Symbol → List ℕ → Type 0

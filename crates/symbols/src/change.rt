@@ -1,4 +1,4 @@
-ghost use Rattle.symbol_operations.specs.AsCoded.{ofOperation};
+ghost use Rattle.symbol_operations.specs.AsCoded.{of_operation};
 ghost use Rattle.symbol_change.specs.Change.{Becomes};
 ghost use Rattle.symbols.specs.Symbols as symbols;
 
@@ -21,7 +21,7 @@ pub fn change_symbol(
     offered: &[u64],
 ) -> Answer
     ensures { Becomes
-        (symbols.change (ofOperation operation) id authority place mark offered.now table.old store.old)
+        (symbols.change (of_operation operation) id authority place mark offered.now table.old store.old)
         result table.new store.new }
 {
     let mut flat = [0u64; Column::WORDS];

@@ -25,7 +25,7 @@ pub fn get_symbol(
 
 // The type that a lent table has under a name, as the part of the store that holds it.
 pub fn get_type<'a>(table: &[Symbol], store: &'a [u64], id: u32) -> &'a [u64]
-    ensures { result.now ≡ symbols.getType id table.now store.now }
+    ensures { result.now ≡ symbols.get_type id table.now store.now }
 {
     let mut flat = [0u64; Column::WORDS];
     gather(table, &mut flat);

@@ -71,7 +71,7 @@ pub fn forward_declare_symbol(
     offered: &[u64],
 ) -> Answer
     ensures { Becomes
-        (symbols.forwardDeclare declared id authority place mark offered.now table.old store.old)
+        (symbols.forward_declare declared id authority place mark offered.now table.old store.old)
         result table.new store.new }
 {
     change_symbol(

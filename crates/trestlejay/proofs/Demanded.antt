@@ -14,13 +14,13 @@ use contract.Lifetimes.{Lfts}
 use contract.Monad.{Fun, fact}
 use denote.Triple.Entry.{Args}
 use Rattle.type_layers.specs.Layers.{layers}
-use Rattle.write_type.specs.Outcome.{answer_in, bufferIn}
+use Rattle.write_type.specs.Outcome.{answer_in, buffer_in}
 use Rattle.symbol_columns.specs.declared.symbol.Symbol.{Symbol}
 use Rattle.write_answer.specs.Flat.{flat}
 use Rattle.plan_steps.specs.Steps.{steps}
 use Rattle.symbol_members.specs.Members.{members}
-use Rattle.walker_run.specs.Walked.{walkTo}
-use Rattle.plan_report.specs.Report.{planRead}
+use Rattle.walker_run.specs.Walked.{walk_to}
+use Rattle.plan_report.specs.Report.{plan_read}
 use Rattle.planner.specs.Demand.{Hidden, Demand}
 use Rattle.planner.specs.Reported.{Reported}
 use Rattle.planner.specs.Accepts.{Accepts}
@@ -61,39 +61,39 @@ module _ {M : Type 1} {𝓤 : Ura M} (𝓛 : Logic 𝓤) (mem : Memory → SProp
   abbrev store : List ℕ
   store = a.1.1.1.1.1.1.0.now
 
-  abbrev stepsBefore : List ℕ
-  stepsBefore = a.1.1.1.1.1.1.1.0.now
+  abbrev steps_before : List ℕ
+  steps_before = a.1.1.1.1.1.1.1.0.now
 
-  abbrev typeBefore : List ℕ
-  typeBefore = a.1.1.1.1.1.1.1.1.0.now
+  abbrev type_before : List ℕ
+  type_before = a.1.1.1.1.1.1.1.1.0.now
 
   -- where the report has no refusal, the plan that was told and written meets the third demand
   pub tj-autoderef-demand : Ensures 𝓤 ((tj-autoderef.clauses 𝓛 mem run κs a).ensures tt)
       (λ r s.
-      let stepsAfter = s.1.1.1.1.1.1.1.0.now in
-      let typeAfter = s.1.1.1.1.1.1.1.1.0.now in
-      r.refusal ≡ 0 → Demand (members table store) (layers known) (steps asked) (layers target) level (planRead r stepsAfter typeAfter))
+      let steps_after = s.1.1.1.1.1.1.1.0.now in
+      let type_after = s.1.1.1.1.1.1.1.1.0.now in
+      r.refusal ≡ 0 → Demand (members table store) (layers known) (steps asked) (layers target) level (plan_read r steps_after type_after))
   tj-autoderef-demand = (
     _,
     (
       λ x s. refl,
       λ r s q.
-          demand-carried table store known asked target level limit r stepsBefore s.1.1.1.1.1.1.1.0.now typeBefore s.1.1.1.1.1.1.1.1.0.now q,
+          demand-carried table store known asked target level limit r steps_before s.1.1.1.1.1.1.1.0.now type_before s.1.1.1.1.1.1.1.1.0.now q,
     ),
   )
 
   -- and it reports the target, or a type that is then coerced into it, or line (vii) applied
   pub tj-autoderef-reported : Ensures 𝓤 ((tj-autoderef.clauses 𝓛 mem run κs a).ensures tt)
       (λ r s.
-      let stepsAfter = s.1.1.1.1.1.1.1.0.now in
-      let typeAfter = s.1.1.1.1.1.1.1.1.0.now in
-      r.refusal ≡ 0 → Reported (members table store) (layers known) (layers target) level (planRead r stepsAfter typeAfter))
+      let steps_after = s.1.1.1.1.1.1.1.0.now in
+      let type_after = s.1.1.1.1.1.1.1.1.0.now in
+      r.refusal ≡ 0 → Reported (members table store) (layers known) (layers target) level (plan_read r steps_after type_after))
   tj-autoderef-reported = (
     _,
     (
       λ x s. refl,
       λ r s q.
-          reported-carried table store known asked target level limit r stepsBefore s.1.1.1.1.1.1.1.0.now typeBefore s.1.1.1.1.1.1.1.1.0.now q,
+          reported-carried table store known asked target level limit r steps_before s.1.1.1.1.1.1.1.0.now type_before s.1.1.1.1.1.1.1.1.0.now q,
     ),
   )
 
@@ -104,16 +104,16 @@ module _ {M : Type 1} {𝓤 : Ura M} (𝓛 : Logic 𝓤) (mem : Memory → SProp
     -- `tj_walk`, asked with the known type, the steps that were written, the plan's flag, and the table and store, accepts
     pub tj-walk-accepts : Ensure 𝓤 ((tj-autoderef.clauses 𝓛 mem run κs a).ensures tt) ((tj-walk.clauses 𝓛 mem run κs' b).ensures tt)
         (λ r s w t.
-        let walkKnown = b.0.now in
-        let walkSteps = b.1.0.now in
-        let walkAddress = b.1.1.0 in
-        let walkTable = b.1.1.1.0.now in
-        let walkStore = b.1.1.1.1.0.now in
-        let stepsAfter = s.1.1.1.1.1.1.1.0.now in
-        let typeAfter = s.1.1.1.1.1.1.1.1.0.now in
-        let outAfter = t.1.1.1.1.1.0.now in
-        r.refusal ≡ 0 → walkKnown ≡ known → walkSteps ≡ take (4 * r.steps) stepsAfter → walkAddress ≡ r.address → walkTable ≡ table → walkStore ≡ store →
-        Accepts (Hidden (members table store) (layers known) (layers target) level (planRead r stepsAfter typeAfter)) r typeAfter w outAfter (length room))
+        let walk_known = b.0.now in
+        let walk_steps = b.1.0.now in
+        let walk_address = b.1.1.0 in
+        let walk_table = b.1.1.1.0.now in
+        let walk_store = b.1.1.1.1.0.now in
+        let steps_after = s.1.1.1.1.1.1.1.0.now in
+        let type_after = s.1.1.1.1.1.1.1.1.0.now in
+        let out_after = t.1.1.1.1.1.0.now in
+        r.refusal ≡ 0 → walk_known ≡ known → walk_steps ≡ take (4 * r.steps) steps_after → walk_address ≡ r.address → walk_table ≡ table → walk_store ≡ store →
+        Accepts (Hidden (members table store) (layers known) (layers target) level (plan_read r steps_after type_after)) r type_after w out_after (length room))
     tj-walk-accepts = (
       _,
       (
@@ -122,11 +122,11 @@ module _ {M : Type 1} {𝓤 : Ura M} (𝓛 : Logic 𝓤) (mem : Memory → SProp
           λ x s. refl,
           (
             λ y t. refl,
-            λ r s w t p q z same_known same-steps same_flag same-table same_Store.
-                accepts table store known asked target level limit r stepsBefore s.1.1.1.1.1.1.1.0.now typeBefore s.1.1.1.1.1.1.1.1.0.now p z
+            λ r s w t p q z same_known same-steps same_flag same-table same_store.
+                accepts table store known asked target level limit r steps_before s.1.1.1.1.1.1.1.0.now type_before s.1.1.1.1.1.1.1.1.0.now p z
                 w room t.1.1.1.1.1.0.now (
-                  q.0 ∙ (λ j. flat (answer_in room (walkTo (same_known j) (same-steps j) (same_flag j) (same-table j) (same_Store j)))),
-                  q.1 ∙ (λ j. bufferIn room (walkTo (same_known j) (same-steps j) (same_flag j) (same-table j) (same_Store j))),
+                  q.0 ∙ (λ j. flat (answer_in room (walk_to (same_known j) (same-steps j) (same_flag j) (same-table j) (same_store j)))),
+                  q.1 ∙ (λ j. buffer_in room (walk_to (same_known j) (same-steps j) (same_flag j) (same-table j) (same_store j))),
                 ),
           ),
         ),

@@ -7,17 +7,17 @@ use Rattle.type_layers.specs.Layers.{Layer, layers, spelled}
 use Rattle.type_layers.specs.Answer as paper
 use Rattle.type_layers.specs.Answer.{given}
 use Rattle.type_layers.proofs.Spelling.{layers-spelled}
-use Rattle.write_type.specs.Outcome.{answer_in, bufferIn}
+use Rattle.write_type.specs.Outcome.{answer_in, buffer_in}
 use Rattle.write_answer.specs.declared.answer.Answer.{Answer}
 use Rattle.write_answer.specs.Flat.{flat}
 
 -- what is told of a type, and what the output is afterwards
 abbrev Tells : List Layer → List ℕ → Answer → List ℕ → Type 0
-Tells a out r out' = (r ≡ flat (answer_in out (given a))) × (out' ≡ bufferIn out (given a))
+Tells a out r out' = (r ≡ flat (answer_in out (given a))) × (out' ≡ buffer_in out (given a))
 
 -- words with nothing in front
 pub alone : (t out out' : List ℕ) (r : Answer) (k : paper.Answer ℕ) →
-    (k ≡ answer_in out (given (layers [] ++ layers t))) × (out' ≡ bufferIn out (given (layers [] ++ layers t))) → r ≡ flat k →
+    (k ≡ answer_in out (given (layers [] ++ layers t))) × (out' ≡ buffer_in out (given (layers [] ++ layers t))) → r ≡ flat k →
     Tells (layers t) out r out'
 unfolding layers
 alone t out out' r k p q = (q ∙ ap flat p.0, p.1)

@@ -1,5 +1,5 @@
 ghost use Rattle.std.specs.Prelude.{◌≡◌};
-ghost use Rattle.extern_fixing.specs.Answers.{fixedAnswer, fixedBuffer};
+ghost use Rattle.extern_fixing.specs.Answers.{fixed_answer, fixed_buffer};
 ghost use Rattle.write_answer.specs.Flat as rules;
 
 use write_answer::Answer;
@@ -11,8 +11,8 @@ pub extern "C" fn tj_fix_type_for_flags(
     context: u64,
     out: &mut [u64],
 ) -> Answer
-    ensures answer { result ≡ rules.flat (fixedAnswer t.now external context out.old) }
-    ensures written { out.new ≡ fixedBuffer t.now external context out.old }
+    ensures answer { result ≡ rules.flat (fixed_answer t.now external context out.old) }
+    ensures written { out.new ≡ fixed_buffer t.now external context out.old }
 {
     write_answer::checked(extern_fixing::fix_type_for_flags(t, external, context, out))
 }

@@ -1,5 +1,5 @@
 ghost use Rattle.std.specs.Prelude.{◌≡◌};
-ghost use Rattle.type_part_starts.specs.PartStarts.{startAnswer};
+ghost use Rattle.type_part_starts.specs.PartStarts.{start_answer};
 ghost use Rattle.write_answer.specs.Flat.{flat};
 
 use face_measures::start;
@@ -8,28 +8,28 @@ use write_answer::Answer;
 
 #[unsafe(no_mangle)]
 pub extern "C" fn tj_get_element_type(t: &[u64]) -> Answer
-    ensures { result ≡ flat (startAnswer Part.Element t.now) }
+    ensures { result ≡ flat (start_answer Part.Element t.now) }
 {
     start(type_part_starts::start_of(Part::Element, t))
 }
 
 #[unsafe(no_mangle)]
 pub extern "C" fn tj_get_pointee_type(t: &[u64]) -> Answer
-    ensures { result ≡ flat (startAnswer Part.Pointee t.now) }
+    ensures { result ≡ flat (start_answer Part.Pointee t.now) }
 {
     start(type_part_starts::start_of(Part::Pointee, t))
 }
 
 #[unsafe(no_mangle)]
 pub extern "C" fn tj_get_viewee_type(t: &[u64]) -> Answer
-    ensures { result ≡ flat (startAnswer Part.Viewee t.now) }
+    ensures { result ≡ flat (start_answer Part.Viewee t.now) }
 {
     start(type_part_starts::start_of(Part::Viewee, t))
 }
 
 #[unsafe(no_mangle)]
 pub extern "C" fn tj_fully_dereferenced(t: &[u64]) -> Answer
-    ensures { result ≡ flat (startAnswer Part.Dereferenced t.now) }
+    ensures { result ≡ flat (start_answer Part.Dereferenced t.now) }
 {
     start(type_part_starts::start_of(Part::Dereferenced, t))
 }

@@ -21,7 +21,7 @@ pub extern "C" fn tj_autoderef<'a>(
     ty: &mut [u64],
 ) -> Report
     ensures { report.Delivers
-        (answers.planAnswer table.now store.now
+        (answers.plan_answer table.now store.now
         known.now asked.now target.now level rounds)
         result steps.old steps.new ty.old ty.new }
 {
@@ -38,7 +38,7 @@ pub extern "C" fn tj_walk<'a>(
     out: &mut [u64],
 ) -> Answer
     ensures { HandsOut
-        (walks.walkTo known.now steps.now address table.now store.now)
+        (walks.walk_to known.now steps.now address table.now store.now)
         result out.old out.new }
 {
     walk(known, steps, address, table, store, out)

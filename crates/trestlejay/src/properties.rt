@@ -1,7 +1,7 @@
 ghost use Rattle.std.specs.Prelude.{◌≡◌};
-ghost use Rattle.type_checks.specs.Check.{checkOf};
-ghost use Rattle.type_wellformed.specs.WellFormed.{wellFormedAnswer};
-ghost use Rattle.type_properties.specs.Properties.{propertyAnswer};
+ghost use Rattle.type_checks.specs.Check.{check_of};
+ghost use Rattle.type_wellformed.specs.WellFormed.{well_formed_answer};
+ghost use Rattle.type_properties.specs.Properties.{property_answer};
 ghost use Rattle.write_answer.specs.Flat.{flat};
 
 use type_properties::Property;
@@ -9,49 +9,49 @@ use write_answer::{Answer, checked, verdict};
 
 #[unsafe(no_mangle)]
 pub extern "C" fn tj_check(t: &[u64]) -> Answer
-    ensures { result ≡ flat (checkOf t.now) }
+    ensures { result ≡ flat (check_of t.now) }
 {
     checked(type_first_refusal::check_type(t))
 }
 
 #[unsafe(no_mangle)]
 pub extern "C" fn tj_is_wellformed(t: &[u64]) -> Answer
-    ensures { result ≡ flat (wellFormedAnswer t.now) }
+    ensures { result ≡ flat (well_formed_answer t.now) }
 {
     verdict(type_wellformed::wellformed(t))
 }
 
 #[unsafe(no_mangle)]
 pub extern "C" fn tj_is_void(t: &[u64]) -> Answer
-    ensures { result ≡ flat (propertyAnswer Property.Void t.now) }
+    ensures { result ≡ flat (property_answer Property.Void t.now) }
 {
     verdict(type_properties::has(Property::Void, t))
 }
 
 #[unsafe(no_mangle)]
 pub extern "C" fn tj_is_integral(t: &[u64]) -> Answer
-    ensures { result ≡ flat (propertyAnswer Property.Integral t.now) }
+    ensures { result ≡ flat (property_answer Property.Integral t.now) }
 {
     verdict(type_properties::has(Property::Integral, t))
 }
 
 #[unsafe(no_mangle)]
 pub extern "C" fn tj_is_signed(t: &[u64]) -> Answer
-    ensures { result ≡ flat (propertyAnswer Property.Signed t.now) }
+    ensures { result ≡ flat (property_answer Property.Signed t.now) }
 {
     verdict(type_properties::has(Property::Signed, t))
 }
 
 #[unsafe(no_mangle)]
 pub extern "C" fn tj_is_bitfield(t: &[u64]) -> Answer
-    ensures { result ≡ flat (propertyAnswer Property.Bitfield t.now) }
+    ensures { result ≡ flat (property_answer Property.Bitfield t.now) }
 {
     verdict(type_properties::has(Property::Bitfield, t))
 }
 
 #[unsafe(no_mangle)]
 pub extern "C" fn tj_is_slice_pointer(t: &[u64]) -> Answer
-    ensures { result ≡ flat (propertyAnswer Property.SlicePointer t.now) }
+    ensures { result ≡ flat (property_answer Property.SlicePointer t.now) }
 {
     verdict(type_properties::has(Property::SlicePointer, t))
 }

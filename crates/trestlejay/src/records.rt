@@ -1,6 +1,6 @@
 ghost use Rattle.std.specs.Prelude.{[]};
 ghost use Rattle.symbol_operations.specs.Act as act;
-ghost use Rattle.symbol_operations.specs.Operation.{putNothing, acts};
+ghost use Rattle.symbol_operations.specs.Operation.{put_nothing, acts};
 ghost use Rattle.symbol_change.specs.Change as changes;
 ghost use Rattle.symbol_get.specs.Get as gets;
 ghost use Rattle.symbols.specs.Symbols as symbols;
@@ -35,7 +35,7 @@ pub extern "C" fn tj_put_nothing(
     place: u64,
 ) -> Answer
     ensures { changes.Becomes
-        (symbols.change putNothing id authority place 0 [] table.old store.old)
+        (symbols.change put_nothing id authority place 0 [] table.old store.old)
         result table.new store.new }
 {
     let none = [0u64; 1];
@@ -61,7 +61,7 @@ pub extern "C" fn tj_put_type(
     offered: &[u64],
 ) -> Answer
     ensures { changes.Becomes
-        (symbols.change (acts act.putType) id authority place 0 offered.now table.old store.old)
+        (symbols.change (acts act.put_type) id authority place 0 offered.now table.old store.old)
         result table.new store.new }
 {
     put_symbol(table, store, Offer::Type, id, authority, place, 0, offered)
@@ -93,7 +93,7 @@ pub extern "C" fn tj_forward_declare_type(
     offered: &[u64],
 ) -> Answer
     ensures { changes.Becomes
-        (symbols.change (acts act.forwardType) id authority place 0 offered.now table.old store.old)
+        (symbols.change (acts act.forward_type) id authority place 0 offered.now table.old store.old)
         result table.new store.new }
 {
     forward_declare_symbol(
@@ -118,7 +118,7 @@ pub extern "C" fn tj_forward_declare_poison(
     mark: u64,
 ) -> Answer
     ensures { changes.Becomes
-        (symbols.change (acts act.forwardPoison) id authority place mark [] table.old store.old)
+        (symbols.change (acts act.forward_poison) id authority place mark [] table.old store.old)
         result table.new store.new }
 {
     let none = [0u64; 1];

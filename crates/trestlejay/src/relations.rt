@@ -1,8 +1,8 @@
 ghost use Rattle.std.specs.Prelude.{◌≡◌, ◌&&◌};
-ghost use Rattle.type_layers.specs.Answer.{truth, isGiven};
-ghost use Rattle.type_checks.specs.Check.{checkOf};
-ghost use Rattle.relation_questions.specs.Questions.{coercionAnswer, relationAnswer};
-ghost use Rattle.relation_questions.specs.AsCoded.{ofCoercionAnswer};
+ghost use Rattle.type_layers.specs.Answer.{truth, is_given};
+ghost use Rattle.type_checks.specs.Check.{check_of};
+ghost use Rattle.relation_questions.specs.Questions.{coercion_answer, relation_answer};
+ghost use Rattle.relation_questions.specs.AsCoded.{of_coercion_answer};
 ghost use Rattle.write_answer.specs.Flat.{flat};
 
 use relation_questions::{CoercionAnswer, Relation};
@@ -11,7 +11,7 @@ use write_answer::{Answer, accepted, refused, verdict};
 
 // Whether both are types. Nearly all that are asked about are, and of those no refusal has to be told.
 fn are_types(a: &[u64], b: &[u64]) -> bool
-    ensures { result ≡ (isGiven (checkOf a.now) && isGiven (checkOf b.now)) }
+    ensures { result ≡ (is_given (check_of a.now) && is_given (check_of b.now)) }
 {
     is_type(a) & is_type(b)
 }
@@ -24,7 +24,7 @@ fn told(yes: bool) -> Answer
 
 #[unsafe(no_mangle)]
 pub extern "C" fn tj_identical(a: &[u64], b: &[u64]) -> Answer
-    ensures { result ≡ flat (relationAnswer Relation.Identical a.now b.now) }
+    ensures { result ≡ flat (relation_answer Relation.Identical a.now b.now) }
 {
     if are_types(a, b) {
         return told(relation_equals::identical(a, b));
@@ -34,7 +34,7 @@ pub extern "C" fn tj_identical(a: &[u64], b: &[u64]) -> Answer
 
 #[unsafe(no_mangle)]
 pub extern "C" fn tj_equals(a: &[u64], b: &[u64]) -> Answer
-    ensures { result ≡ flat (relationAnswer Relation.Equals a.now b.now) }
+    ensures { result ≡ flat (relation_answer Relation.Equals a.now b.now) }
 {
     if are_types(a, b) {
         return told(relation_equals::equals(a, b));
@@ -44,7 +44,7 @@ pub extern "C" fn tj_equals(a: &[u64], b: &[u64]) -> Answer
 
 #[unsafe(no_mangle)]
 pub extern "C" fn tj_is_like(a: &[u64], b: &[u64]) -> Answer
-    ensures { result ≡ flat (relationAnswer Relation.Like a.now b.now) }
+    ensures { result ≡ flat (relation_answer Relation.Like a.now b.now) }
 {
     if are_types(a, b) {
         return told(relation_declared::is_like(a, b));
@@ -54,7 +54,7 @@ pub extern "C" fn tj_is_like(a: &[u64], b: &[u64]) -> Answer
 
 #[unsafe(no_mangle)]
 pub extern "C" fn tj_can_be_declared_as(a: &[u64], b: &[u64]) -> Answer
-    ensures { result ≡ flat (relationAnswer Relation.DeclaredAs a.now b.now) }
+    ensures { result ≡ flat (relation_answer Relation.DeclaredAs a.now b.now) }
 {
     if are_types(a, b) {
         return told(relation_declared::can_be_declared_as(a, b));
@@ -64,7 +64,7 @@ pub extern "C" fn tj_can_be_declared_as(a: &[u64], b: &[u64]) -> Answer
 
 #[unsafe(no_mangle)]
 pub extern "C" fn tj_can_be_concretization_of(a: &[u64], b: &[u64]) -> Answer
-    ensures { result ≡ flat (relationAnswer Relation.ConcretizationOf a.now b.now) }
+    ensures { result ≡ flat (relation_answer Relation.ConcretizationOf a.now b.now) }
 {
     if are_types(a, b) {
         return told(relation_declared::can_be_concretization_of(a, b));
@@ -73,7 +73,7 @@ pub extern "C" fn tj_can_be_concretization_of(a: &[u64], b: &[u64]) -> Answer
 }
 
 fn coercion_told(answer: CoercionAnswer) -> Answer
-    ensures { result ≡ flat (ofCoercionAnswer answer) }
+    ensures { result ≡ flat (of_coercion_answer answer) }
 {
     match answer {
         CoercionAnswer::Given(coercion) => accepted(coercion.number()),
@@ -83,7 +83,7 @@ fn coercion_told(answer: CoercionAnswer) -> Answer
 
 #[unsafe(no_mangle)]
 pub extern "C" fn tj_coerces(a: &[u64], b: &[u64]) -> Answer
-    ensures { result ≡ flat (coercionAnswer a.now b.now) }
+    ensures { result ≡ flat (coercion_answer a.now b.now) }
 {
     if are_types(a, b) {
         return accepted(relation_coerces::coerces(a, b).number());
@@ -93,7 +93,7 @@ pub extern "C" fn tj_coerces(a: &[u64], b: &[u64]) -> Answer
 
 #[unsafe(no_mangle)]
 pub extern "C" fn tj_can_autoderef_into(a: &[u64], b: &[u64]) -> Answer
-    ensures { result ≡ flat (relationAnswer Relation.Autoderefs a.now b.now) }
+    ensures { result ≡ flat (relation_answer Relation.Autoderefs a.now b.now) }
 {
     if are_types(a, b) {
         return told(relation_coerces::can_autoderef_into(a, b));
@@ -103,7 +103,7 @@ pub extern "C" fn tj_can_autoderef_into(a: &[u64], b: &[u64]) -> Answer
 
 #[unsafe(no_mangle)]
 pub extern "C" fn tj_can_subautoderef_into(a: &[u64], b: &[u64]) -> Answer
-    ensures { result ≡ flat (relationAnswer Relation.Subautoderefs a.now b.now) }
+    ensures { result ≡ flat (relation_answer Relation.Subautoderefs a.now b.now) }
 {
     if are_types(a, b) {
         return told(relation_coerces::can_subautoderef_into(a, b));

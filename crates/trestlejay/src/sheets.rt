@@ -1,12 +1,12 @@
 ghost use Rattle.std.specs.Prelude.{◌≡◌};
-ghost use Rattle.sheet_read.specs.Sheet.{readSheet};
+ghost use Rattle.sheet_read.specs.Sheet.{read_sheet};
 ghost use Rattle.write_answer.specs.Flat.{flat};
 
 use write_answer::{Answer, checked};
 
 #[unsafe(no_mangle)]
 pub extern "C" fn tj_read_sheet(sheet: &[u8]) -> Answer
-    ensures { result ≡ flat (readSheet sheet.now) }
+    ensures { result ≡ flat (read_sheet sheet.now) }
 {
     checked(sheet_read::read_sheet(sheet))
 }

@@ -11,7 +11,7 @@ use borrow.Author.Tests.{ne_eqb}
 use Rattle.type_numbers.specs.Kind as kind
 use Rattle.type_layers.specs.Layers.{layers, outer}
 use Rattle.type_layers.proofs.Table.{every, at}
-use Rattle.type_bounds.specs.Bounds.{halves, lowestOf, highestOf, lowest, highest}
+use Rattle.type_bounds.specs.Bounds.{halves, lowest_of, highest_of, lowest, highest}
 use Rattle.type_bounds.specs.declared.bound.Halves.{Halves}
 
 -- an entry of a table is the low or the high half of what the list says of its kind
@@ -30,22 +30,22 @@ module _ (f : ℕ → ℕ) (k d e : ℕ) (xs ys : List ℕ) where
       (eqb→eq (get_or xs k d) (f k % 2 ^ 64) (at (low f) d xs t k h), eqb→eq (get_or ys k e) (f k / 2 ^ 64) (at (high f) e ys u k i))
 
 -- an address
-pointed : (k : ℕ) (b d : Bool) → eqb k kind.pointer ≡ b → eqb k kind.view ≡ d → b || d ≡ true → halves (2 ^ 64 - 1) ≡ halves (highestOf k)
+pointed : (k : ℕ) (b d : Bool) → eqb k kind.pointer ≡ b → eqb k kind.view ≡ d → b || d ≡ true → halves (2 ^ 64 - 1) ≡ halves (highest_of k)
 pointed k true d p q t = rw (eqb→eq k kind.pointer (rw p tt))
 pointed k false true p q t = rw (eqb→eq k kind.view (rw q tt))
 pointed k false false p q t = cc
 
 module _ (ws : List ℕ) (k : ℕ) (e : k ≡ outer (layers ws)) where
   module _ (d g : ℕ) (xs ys : List ℕ) (h : k < length xs) (i : k < length ys) where
-    pub lowest-at : T (every (low lowestOf) 0 xs) → T (every (high lowestOf) 0 ys) →
+    pub lowest-at : T (every (low lowest_of) 0 xs) → T (every (high lowest_of) 0 ys) →
         record { low = get_or xs k d; high = get_or ys k g } ≡ lowest (layers ws)
     unfolding lowest
-    lowest-at t u = rw (← e) (entry lowestOf k d g xs ys t u h i)
+    lowest-at t u = rw (← e) (entry lowest_of k d g xs ys t u h i)
 
-    pub highest-at : T (every (low highestOf) 0 xs) → T (every (high highestOf) 0 ys) →
+    pub highest-at : T (every (low highest_of) 0 xs) → T (every (high highest_of) 0 ys) →
         record { low = get_or xs k d; high = get_or ys k g } ≡ highest (layers ws)
     unfolding highest
-    highest-at t u = rw (← e) (entry highestOf k d g xs ys t u h i)
+    highest-at t u = rw (← e) (entry highest_of k d g xs ys t u h i)
 
   off : (m n : ℕ) → m ≤ k → T (leb (suc n) m) → eqb k n ≡ false
   off m n h t = ne_eqb k n (λ (z : k ≡ n). omega (arith, leb→le (suc n) m t))

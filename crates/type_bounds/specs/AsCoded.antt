@@ -5,6 +5,6 @@ use Rattle.type_bounds.specs.declared.bound.Bound.{Bound}
 use Rattle.type_bounds.specs.declared.bound.Bound.TheVariants as bound
 
 -- "in two u64 halves"
-abbrev pub ofBound : Bound → Answer Halves
-ofBound (bound.Value l h) = given (record { low = l; high = h })
-ofBound (bound.Refused n p) = refused n p
+abbrev pub of_bound : Bound → Answer Halves
+of_bound (bound.Value l h) = given (record { low = l; high = h })
+of_bound (bound.Refused n p) = refused n p

@@ -3,7 +3,7 @@ use Rattle.std.specs.Prelude.{cond, ◌||◌, List, ℕ, ◌-◌, ◌^◌, ◌/�
 use Rattle.type_numbers.specs.Kind as kind
 use Rattle.type_layers.specs.Layers.{Layer, layers, outer}
 use Rattle.type_layers.specs.Answer.{Answer, given, next}
-use Rattle.type_checks.specs.Check.{checkOf}
+use Rattle.type_checks.specs.Check.{check_of}
 use Rattle.type_bounds.specs.declared.bound.Halves.{Halves}
 
 -- "in two u64 halves"
@@ -15,8 +15,8 @@ abbrev pub minus : ℕ → ℕ
 minus n = 2 ^ 128 - n
 
 -- `min_i128`, by the outer kind.
-abbrev pub lowestOf : ℕ → ℕ
-lowestOf k =
+abbrev pub lowest_of : ℕ → ℕ
+lowest_of k =
     cond (eqb k kind.int8) (minus (2 ^ 7))
     (cond (eqb k kind.int16) (minus (2 ^ 15))
     (cond (eqb k kind.int32) (minus (2 ^ 31))
@@ -25,8 +25,8 @@ lowestOf k =
     0))))
 
 -- `max_u128`, by the outer kind.
-abbrev pub highestOf : ℕ → ℕ
-highestOf k =
+abbrev pub highest_of : ℕ → ℕ
+highest_of k =
     cond (eqb k kind.int8) (2 ^ 7 - 1)
     (cond (eqb k kind.int16) (2 ^ 15 - 1)
     (cond (eqb k kind.int32) (2 ^ 31 - 1)
@@ -40,13 +40,13 @@ highestOf k =
     0)))))))))
 
 unfoldable pub lowest : List Layer → Halves
-lowest a = halves (lowestOf (outer a))
+lowest a = halves (lowest_of (outer a))
 
 unfoldable pub highest : List Layer → Halves
-highest a = halves (highestOf (outer a))
+highest a = halves (highest_of (outer a))
 
-unfoldable pub lowestAnswer : List ℕ → Answer Halves
-lowestAnswer ws = next (checkOf ws) (given (lowest (layers ws)))
+unfoldable pub lowest_answer : List ℕ → Answer Halves
+lowest_answer ws = next (check_of ws) (given (lowest (layers ws)))
 
-unfoldable pub highestAnswer : List ℕ → Answer Halves
-highestAnswer ws = next (checkOf ws) (given (highest (layers ws)))
+unfoldable pub highest_answer : List ℕ → Answer Halves
+highest_answer ws = next (check_of ws) (given (highest (layers ws)))

@@ -1,8 +1,8 @@
 ghost use Rattle.std.specs.Prelude.{◌≡◌};
 ghost use Rattle.type_layers.specs.Layers.{layers};
-ghost use Rattle.type_bounds.specs.AsCoded.{ofBound};
+ghost use Rattle.type_bounds.specs.AsCoded.{of_bound};
 ghost use Rattle.type_bounds.specs.Bounds as rules;
-ghost use Rattle.type_bounds.specs.Bounds.{lowestAnswer, highestAnswer};
+ghost use Rattle.type_bounds.specs.Bounds.{lowest_answer, highest_answer};
 
 use crate::bound::{Bound, Halves};
 use type_first_refusal::check_type;
@@ -78,7 +78,7 @@ fn highest(a: &[u64]) -> Halves
 
 // The lowest value, for any words.
 pub fn min_i128(a: &[u64]) -> Bound
-    ensures { ofBound result ≡ lowestAnswer a.now }
+    ensures { of_bound result ≡ lowest_answer a.now }
 {
     match check_type(a) {
         Checked::Refused { number, place } => Bound::Refused { number, place },
@@ -94,7 +94,7 @@ pub fn min_i128(a: &[u64]) -> Bound
 
 // The highest value, for any words.
 pub fn max_u128(a: &[u64]) -> Bound
-    ensures { ofBound result ≡ highestAnswer a.now }
+    ensures { of_bound result ≡ highest_answer a.now }
 {
     match check_type(a) {
         Checked::Refused { number, place } => Bound::Refused { number, place },

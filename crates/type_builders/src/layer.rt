@@ -100,7 +100,7 @@ impl Layer {
     }
 
     pub fn array_with_named_length(name: u32) -> [u64; 3]
-        ensures { result ≡ words kind.arrayWithNamedLength name 0 }
+        ensures { result ≡ words kind.array_with_named_length name 0 }
     {
         [Kind::ARRAY_WITH_NAMED_LENGTH, name as u64, 0]
     }
@@ -112,13 +112,13 @@ impl Layer {
     }
 
     pub fn slice_pointer() -> [u64; 3]
-        ensures { result ≡ words kind.slicePointer 0 0 }
+        ensures { result ≡ words kind.slice_pointer 0 0 }
     {
         [Kind::SLICE_POINTER, 0, 0]
     }
 
     pub fn endless_array() -> [u64; 3]
-        ensures { result ≡ words kind.endlessArray 0 0 }
+        ensures { result ≡ words kind.endless_array 0 0 }
     {
         [Kind::ENDLESS_ARRAY, 0, 0]
     }
@@ -142,13 +142,13 @@ impl Layer {
     }
 
     pub fn unresolved_struct_or_word() -> [u64; 3]
-        ensures { result ≡ words kind.unresolvedStructOrWord 0 0 }
+        ensures { result ≡ words kind.unresolved_struct_or_word 0 0 }
     {
         [Kind::UNRESOLVED_STRUCT_OR_WORD, 0, 0]
     }
 
     pub fn named_struct_or_word(name: u32) -> [u64; 3]
-        ensures { result ≡ words kind.unresolvedStructOrWord name 1 }
+        ensures { result ≡ words kind.unresolved_struct_or_word name 1 }
     {
         [Kind::UNRESOLVED_STRUCT_OR_WORD, name as u64, 1]
     }

@@ -1,20 +1,20 @@
 ghost use Rattle.std.specs.Prelude.{◌≡◌};
 ghost use Rattle.type_layers.specs.Layers.{spelled};
-ghost use Rattle.type_builders.specs.Strings.{stringLiteral, stringSlice};
+ghost use Rattle.type_builders.specs.Strings.{string_literal, string_slice};
 
 use crate::layer::Layer;
 use crate::layer_pair::two_layers;
 
 // The type of a string literal of so many bytes.
 pub fn for_string_literal(length: u64) -> [u64; 6]
-    ensures { result ≡ spelled (stringLiteral length) }
+    ensures { result ≡ spelled (string_literal length) }
 {
     two_layers(Layer::array(length), Layer::char8())
 }
 
 // The type of a string slice.
 pub fn for_string_slice() -> [u64; 6]
-    ensures { result ≡ spelled stringSlice }
+    ensures { result ≡ spelled string_slice }
 {
     two_layers(Layer::slice(), Layer::char8())
 }

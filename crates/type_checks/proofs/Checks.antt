@@ -9,17 +9,17 @@ use lib.Dec.{eqb, ltb}
 use lib.ListN.{length, drop, get_or, length-drop, drop_of_length-le}
 use lib.Seq.{drop-drop, get_or-drop}
 use borrow.Author.Tests.{ltb-false, eqb-true, eqb-false, eq-eqb, ne_eqb}
-use Rattle.type_layers.specs.Layers.{Layer, layer, layers, holdsInner}
+use Rattle.type_layers.specs.Layers.{Layer, layer, layers, holds_inner}
 use Rattle.type_layers.specs.Answer.{given, refused}
-use Rattle.type_checks.specs.Check.{Place, at, nowhere, badCount, badWord, badLayer, misplaced, checkOf}
+use Rattle.type_checks.specs.Check.{Place, at, nowhere, bad_count, bad_word, bad_layer, misplaced, check_of}
 use Rattle.type_layers.proofs.Words.{none, more-drop}
 
 -- the layer that starts at a word
-abbrev pub layerAt : List ℕ → ℕ → Layer
-layerAt ws i = layer (get_or ws i 0) (get_or ws (i + 1) 0) (get_or ws (i + 2) 0)
+abbrev pub layer_at : List ℕ → ℕ → Layer
+layer_at ws i = layer (get_or ws i 0) (get_or ws (i + 1) 0) (get_or ws (i + 2) 0)
 
 here : (ws : List ℕ) (i : ℕ) → i + 3 ≤ length ws →
-    layers (drop i ws) ≡ layerAt ws i ∷ layers (drop (i + 3) ws)
+    layers (drop i ws) ≡ layer_at ws i ∷ layers (drop (i + 3) ws)
 here ws i h =
     let enough : 3 ≤ length (drop i ws) = simp length-drop (omega arith) in
     let zero : i + 0 ≡ i = omega arith in
@@ -42,10 +42,10 @@ pub record Passed (ws : List ℕ) (word place found : ℕ) : Type 0 where
   pub whole : length ws % 3 ≡ 0
   pub within : word ≤ length ws
   pub count : word ≡ place * 3
-  pub good : badLayer place (layers (drop word ws)) ≡ badLayer 0 (layers ws)
+  pub good : bad_layer place (layers (drop word ws)) ≡ bad_layer 0 (layers ws)
   pub first : or_else found (misplaced place (layers (drop word ws))) ≡ misplaced 0 (layers ws)
 
-pub start : (ws : List ℕ) → badCount (length ws) ≡ false → Passed ws 0 0 16
+pub start : (ws : List ℕ) → bad_count (length ws) ≡ false → Passed ws 0 0 16
 start ws e =
     let c = counted (eqb (length ws) 0) (ltb 48 (length ws)) (eqb (length ws % 3) 0) e in
     record {
@@ -66,11 +66,11 @@ Ends false (y ∷ a) = Unit
 
 -- one turn: the layer at the word is good, and may be the first that is misplaced
 wrong : (x : Layer) (a : List Layer) (p : ℕ) (last : Bool) → Ends last a →
-    misplaced p (x ∷ a) ≡ cond (cond (holdsInner x.kind) last (not last)) (at p) (misplaced (p + 1) a)
+    misplaced p (x ∷ a) ≡ cond (cond (holds_inner x.kind) last (not last)) (at p) (misplaced (p + 1) a)
 unfolding misplaced
-wrong x a p last e = by_kind (holdsInner x.kind) refl a last e
+wrong x a p last e = by_kind (holds_inner x.kind) refl a last e
   where
-    by_kind : (h : Bool) → holdsInner x.kind ≡ h → (a : List Layer) (last : Bool) → Ends last a →
+    by_kind : (h : Bool) → holds_inner x.kind ≡ h → (a : List Layer) (last : Bool) → Ends last a →
         misplaced p (x ∷ a) ≡ cond (cond h last (not last)) (at p) (misplaced (p + 1) a)
     by_kind true q [] true e = rw q
     by_kind false q [] true e = rw q
@@ -97,11 +97,11 @@ ends ws word m k h = by_end (eqb word (length ws)) refl
         rw (here ws word (omega arith)) tt
 
 module _ (ws : List ℕ) (word place found : ℕ) (i : Passed ws word place found) (h : word < length ws)
-    (e : badWord (layerAt ws word) ≡ nowhere) where
+    (e : bad_word (layer_at ws word) ≡ nowhere) where
   pub turn : (next : ℕ) (wrong : Bool) →
-      wrong ≡ cond (holdsInner (get_or ws word 0)) (eqb (word + 3) (length ws)) (not (eqb (word + 3) (length ws))) →
+      wrong ≡ cond (holds_inner (get_or ws word 0)) (eqb (word + 3) (length ws)) (not (eqb (word + 3) (length ws))) →
       next ≡ cond (eqb found 16 && wrong) place found → Passed ws (word + 3) (place + 1) next
-  unfolding badLayer
+  unfolding bad_layer
   turn next w g j =
       let step = here ws word (omega (arith, i.whole, i.count)) in
       let end = ends ws (word + 3) i.whole (omega (arith, i.count)) (omega (arith, i.whole, i.count)) in
@@ -114,37 +114,37 @@ module _ (ws : List ℕ) (word place found : ℕ) (i : Passed ws word place foun
         first =
             rw j
             (sym (merged found place (eqb found 16) w (misplaced (place + 1) (layers (drop (word + 3) ws))) refl (omega (arith, i.few, i.count)))
-            ∙ (rw (g, ← wrong (layerAt ws word) (layers (drop (word + 3) ws)) place (eqb (word + 3) (length ws)) end, ← step) i.first));
+            ∙ (rw (g, ← wrong (layer_at ws word) (layers (drop (word + 3) ws)) place (eqb (word + 3) (length ws)) end, ← step) i.first));
       }
 
 -- the answers
-pub miscounted : (ws : List ℕ) → badCount (length ws) ≡ true → refused 1 0 ≡ checkOf ws
-unfolding checkOf
+pub miscounted : (ws : List ℕ) → bad_count (length ws) ≡ true → refused 1 0 ≡ check_of ws
+unfolding check_of
 miscounted ws e = rw e
 
-module _ (ws : List ℕ) (place found : ℕ) (c : badCount (length ws) ≡ false) where
+module _ (ws : List ℕ) (place found : ℕ) (c : bad_count (length ws) ≡ false) where
   pub bad : (word w : ℕ) → Passed ws word place found → word < length ws →
-      badWord (layerAt ws word) ≡ at w → refused 2 (3 * place + w) ≡ checkOf ws
-  unfolding checkOf badLayer
+      bad_word (layer_at ws word) ≡ at w → refused 2 (3 * place + w) ≡ check_of ws
+  unfolding check_of bad_layer
   bad word w i h e =
       let step = here ws word (omega (arith, i.whole, i.count)) in
       rw (c, ← i.good, step, e)
 
   module _ (word : ℕ) (i : Passed ws word place found) (h : length ws ≤ word) where
-    no-bad : nowhere ≡ badLayer 0 (layers ws)
-    unfolding badLayer
+    no-bad : nowhere ≡ bad_layer 0 (layers ws)
+    unfolding bad_layer
     no-bad = rw (drop_of_length-le ws h, none [] (omega arith)) at i.good
 
     left : or_else found nowhere ≡ misplaced 0 (layers ws)
     unfolding misplaced
     left = rw (drop_of_length-le ws h, none [] (omega arith)) at i.first
 
-    pub leaf : (found ≡ 16 → ⊥) → refused 3 found ≡ checkOf ws
-    unfolding checkOf
+    pub leaf : (found ≡ 16 → ⊥) → refused 3 found ≡ check_of ws
+    unfolding check_of
     leaf n = rw (c, ← no-bad, ← left, ne_eqb found 16 n)
 
-    pub fine : found ≡ 16 → given place ≡ checkOf ws
-    unfolding checkOf
+    pub fine : found ≡ 16 → given place ≡ check_of ws
+    unfolding check_of
     fine n =
         let count : length ws / 3 ≡ place = omega (arith, i.within, i.count) in
         rw (c, ← no-bad, ← left, eq-eqb found 16 n, count)

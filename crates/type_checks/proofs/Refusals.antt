@@ -3,11 +3,11 @@
 use mathlib.Core.Path.{◌≡◌, refl, sym, ap, ◌∙◌}
 use mathlib.Core.Bool.{Bool, true, false, true≢false, false≢true}
 use Prim.Native.Nat.{ℕ}
-use Rattle.type_layers.specs.Answer.{Answer, given, nothing, refused, ofChecked, next, truth, isGiven}
+use Rattle.type_layers.specs.Answer.{Answer, given, nothing, refused, of_checked, next, truth, is_given}
 use Rattle.type_layers.specs.declared.answers.Checked.{Checked}
 use Rattle.type_layers.specs.declared.answers.Checked.TheVariants.{Good, Refused}
 
-module _ {A : Type 0} (x : Checked) (a : Answer ℕ) (e : ofChecked x ≡ a) (c : Answer A) where
+module _ {A : Type 0} (x : Checked) (a : Answer ℕ) (e : of_checked x ≡ a) (c : Answer A) where
   pub refuses : (n p : ℕ) → x ≡ Refused n p → refused n p ≡ next a c
   refuses n p h = rw (← e, h)
 
@@ -19,21 +19,21 @@ pub answered : (f g : Bool) (r : Answer ℕ) → r ≡ truth f → f ≡ g → r
 answered f g r q e = rw e at q
 
 -- the checks of two types, by whether the left one passes
-module _ (x y : Answer ℕ) (good : Bool) (e : good ≡ isGiven x) where
+module _ (x y : Answer ℕ) (good : Bool) (e : good ≡ is_given x) where
   pub left-passes : (r : Answer ℕ) → good ≡ true → r ≡ y → r ≡ next x y
   left-passes r f q = by_answer x (sym e ∙ f)
     where
-      by_answer : (z : Answer ℕ) → isGiven z ≡ true → r ≡ next z y
+      by_answer : (z : Answer ℕ) → is_given z ≡ true → r ≡ next z y
       by_answer (given n) g = q
       by_answer nothing g = absurd (false≢true g)
       by_answer (refused n p) g = absurd (false≢true g)
 
-  pub left-fails : (v : Checked) → good ≡ false → ofChecked v ≡ x → ofChecked v ≡ next x y
-  left-fails (Good n) f q = absurd (true≢false (ap isGiven q ∙ (sym e ∙ f)))
+  pub left-fails : (v : Checked) → good ≡ false → of_checked v ≡ x → of_checked v ≡ next x y
+  left-fails (Good n) f q = absurd (true≢false (ap is_given q ∙ (sym e ∙ f)))
   left-fails (Refused n p) f q = rw (← q)
 
 -- what follows checks that pass
-pub passed : {A : Type 0} (x : Answer ℕ) (c : Answer A) → isGiven x ≡ true → next x c ≡ c
+pub passed : {A : Type 0} (x : Answer ℕ) (c : Answer A) → is_given x ≡ true → next x c ≡ c
 passed (given n) c e = refl
 passed nothing c e = absurd (false≢true e)
 passed (refused n p) c e = absurd (false≢true e)

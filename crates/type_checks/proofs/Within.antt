@@ -6,8 +6,8 @@ use Prim.Native.Nat.{ℕ, zero, suc, ◌-◌, ◌^◌, ◌≤◌, ◌<◌}
 use native.Mathlib.Omega.{arith}
 use lib.Dec.{eqb, leb, ltb}
 use borrow.Author.Tests.{le-leb, lt-leb, lt-ltb, ltb-true, ltb-false, ne_eqb, eqb-true, eqb-false, not-true, not-false}
-use Rattle.type_layers.specs.Layers.{layer, holdsInner}
-use Rattle.type_checks.specs.Check.{goodName, goodNumber, goodLayer}
+use Rattle.type_layers.specs.Layers.{layer, holds_inner}
+use Rattle.type_checks.specs.Check.{good_name, good_number, good_layer}
 
 -- two kinds of which a test says different things
 apart : (test : ℕ → Bool) (k l : ℕ) (u : Bool) → test k ≡ u → test l ≡ not u → eqb k l ≡ false
@@ -25,9 +25,9 @@ apart test k l u e f = by-test (eqb k l) refl
 small : (n : ℕ) → eqb n 0 ≡ true → leb n (2 ^ 32 - 1) ≡ true
 small n e = le-leb n (2 ^ 32 - 1) (omega (arith, eqb-true n 0 e))
 
-module _ (k n m : ℕ) (f : Bool) (e : f ≡ holdsInner k) where
+module _ (k n m : ℕ) (f : Bool) (e : f ≡ holds_inner k) where
   -- a kind that holds an inner type
-  pub holds_not : not f ≡ true → false ≡ (holdsInner k && goodLayer (layer k n m))
+  pub holds_not : not f ≡ true → false ≡ (holds_inner k && good_layer (layer k n m))
   holds_not g = rw (← e, not-true f g)
 
   module _ (g : not f ≡ false) where
@@ -41,7 +41,7 @@ module _ (k n m : ℕ) (f : Bool) (e : f ≡ holdsInner k) where
         by-test true g = refl
         by-test false g =
             let l = ltb-false k 25 g in
-            let no : holdsInner k ≡ false = rw (ne_eqb k 14 (λ z. omega arith), ne_eqb k 15 (λ z. omega arith), ne_eqb k 16 (λ z. omega arith), ne_eqb k 17 (λ z. omega arith), ne_eqb k 18 (λ z. omega arith), ne_eqb k 19 (λ z. omega arith), ne_eqb k 23 (λ z. omega arith), ne_eqb k 24 (λ z. omega arith)) in
+            let no : holds_inner k ≡ false = rw (ne_eqb k 14 (λ z. omega arith), ne_eqb k 15 (λ z. omega arith), ne_eqb k 16 (λ z. omega arith), ne_eqb k 17 (λ z. omega arith), ne_eqb k 18 (λ z. omega arith), ne_eqb k 19 (λ z. omega arith), ne_eqb k 23 (λ z. omega arith), ne_eqb k 24 (λ z. omega arith)) in
             absurd (true≢false (sym h ∙ (e ∙ no)))
 
     by_field : (a b nz ns mz l : Bool) → (nz ≡ true → ns ≡ true) → (a && b) ≡ false → (nz && mz) ≡ false →
@@ -62,18 +62,18 @@ module _ (k n m : ℕ) (f : Bool) (e : f ≡ holdsInner k) where
     by-zeros false true true ns true l p r = rw (p refl)
     by-zeros false false true ns true l p r = refl
 
-    no-leaf : (l : ℕ) → holdsInner l ≡ false → eqb k l ≡ false
-    no-leaf l g = apart holdsInner k l true (sym e ∙ h) g
+    no-leaf : (l : ℕ) → holds_inner l ≡ false → eqb k l ≡ false
+    no-leaf l g = apart holds_inner k l true (sym e ∙ h) g
 
-    pub holds_plain : (eqb n 0 && eqb m 0) ≡ true → true ≡ (holdsInner k && goodLayer (layer k n m))
-    unfolding goodLayer
+    pub holds_plain : (eqb n 0 && eqb m 0) ≡ true → true ≡ (holds_inner k && good_layer (layer k n m))
+    unfolding good_layer
     holds_plain z =
         rw (← e, h, known, no-leaf 20 refl, no-leaf 21 refl, no-leaf 22 refl)
         (by-zeros (eqb k 14) (eqb k 15) (eqb n 0) (leb n (2 ^ 32 - 1)) (eqb m 0) (leb m 1) (small n) z)
 
     pub holds_more : (eqb n 0 && eqb m 0) ≡ false →
-        (eqb k 15 && leb n (2 ^ 32 - 1) && eqb m 0 || eqb k 14 && eqb n 0) ≡ (holdsInner k && goodLayer (layer k n m))
-    unfolding goodLayer
+        (eqb k 15 && leb n (2 ^ 32 - 1) && eqb m 0 || eqb k 14 && eqb n 0) ≡ (holds_inner k && good_layer (layer k n m))
+    unfolding good_layer
     holds_more z =
         let one : (eqb k 14 && eqb k 15) ≡ false = not-both (eqb k 14) refl in
         rw (← e, h, known, no-leaf 20 refl, no-leaf 21 refl, no-leaf 22 refl)
@@ -85,8 +85,8 @@ module _ (k n m : ℕ) (f : Bool) (e : f ≡ holdsInner k) where
 
 -- a leaf
 module _ (k n m : ℕ) where
-  pub leaf-plain : k < 14 → (eqb n 0 && eqb m 0) ≡ (not (holdsInner k) && goodLayer (layer k n m))
-  unfolding goodLayer
+  pub leaf-plain : k < 14 → (eqb n 0 && eqb m 0) ≡ (not (holds_inner k) && good_layer (layer k n m))
+  unfolding good_layer
   leaf-plain l =
       rw (ne_eqb k 14 (λ z. omega arith), ne_eqb k 15 (λ z. omega arith), ne_eqb k 16 (λ z. omega arith), ne_eqb k 17 (λ z. omega arith), ne_eqb k 18 (λ z. omega arith), ne_eqb k 19 (λ z. omega arith), ne_eqb k 20 (λ z. omega arith), ne_eqb k 21 (λ z. omega arith), ne_eqb k 22 (λ z. omega arith), ne_eqb k 23 (λ z. omega arith), ne_eqb k 24 (λ z. omega arith), lt-ltb k 25 (omega arith))
 
@@ -116,23 +116,23 @@ module _ (k n m : ℕ) where
 
   pub leaf-more : 14 ≤ k →
       ((eqb k 20 && eqb m 0 || eqb k 21 || eqb k 22 && eqb m 1) && leb n (2 ^ 32 - 1) || eqb k 22 && eqb n 0 && eqb m 0)
-      ≡ (not (holdsInner k) && goodLayer (layer k n m))
-  unfolding goodLayer
-  leaf-more l = by-holding (holdsInner k) refl
+      ≡ (not (holds_inner k) && good_layer (layer k n m))
+  unfolding good_layer
+  leaf-more l = by-holding (holds_inner k) refl
     where
       Told : Bool → Type 0
       Told f =
           ((eqb k 20 && eqb m 0 || eqb k 21 || eqb k 22 && eqb m 1) && leb n (2 ^ 32 - 1) || eqb k 22 && eqb n 0 && eqb m 0)
-          ≡ (not f && (ltb k 25 && goodName (layer k n m) && goodNumber (layer k n m)))
+          ≡ (not f && (ltb k 25 && good_name (layer k n m) && good_number (layer k n m)))
 
       exclusive : (v : Bool) → eqb m 1 ≡ v → (v && eqb m 0) ≡ false
       exclusive true g = rw (eqb-true m 1 g)
       exclusive false g = refl
 
-      not-kind : holdsInner k ≡ false → (c : ℕ) → holdsInner c ≡ true → k ≡ c → ⊥
-      not-kind h c g = eqb-false k c (apart holdsInner k c false h g)
+      not-kind : holds_inner k ≡ false → (c : ℕ) → holds_inner c ≡ true → k ≡ c → ⊥
+      not-kind h c g = eqb-false k c (apart holds_inner k c false h g)
 
-      by-leaf : holdsInner k ≡ false → ltb k 25 ≡ true → (s w u : Bool) → eqb k 20 ≡ s → eqb k 21 ≡ w → eqb k 22 ≡ u → Told false
+      by-leaf : holds_inner k ≡ false → ltb k 25 ≡ true → (s w u : Bool) → eqb k 20 ≡ s → eqb k 21 ≡ w → eqb k 22 ≡ u → Told false
       by-leaf h g true w u a b c = rw (eqb-true k 20 a) (of_struct (eqb m 0) (eqb m 1) (leb n (2 ^ 32 - 1)))
       by-leaf h g false true u a b c = rw (eqb-true k 21 b) (or-false (leb n (2 ^ 32 - 1)) ∙ sym (and-true (leb n (2 ^ 32 - 1))))
       by-leaf h g false false true a b c = rw (eqb-true k 22 c, at_most_one) (of-unresolved (eqb m 0) (eqb m 1) (eqb n 0) (leb n (2 ^ 32 - 1)) (exclusive (eqb m 1) refl))
@@ -142,12 +142,12 @@ module _ (k n m : ℕ) where
           let named : 23 ≤ k = omega (arith, eqb-false k 20 a, eqb-false k 21 b, eqb-false k 22 c) in
           absurd (omega (arith, ltb-true k 25 g, not-kind h 23 refl, not-kind h 24 refl))
 
-      by-limit : holdsInner k ≡ false → (g : Bool) → ltb k 25 ≡ g → Told false
+      by-limit : holds_inner k ≡ false → (g : Bool) → ltb k 25 ≡ g → Told false
       by-limit h true g = by-leaf h g (eqb k 20) (eqb k 21) (eqb k 22) refl refl refl
       by-limit h false g =
           let far = ltb-false k 25 g in
           rw (g, ne_eqb k 20 (λ z. omega arith), ne_eqb k 21 (λ z. omega arith), ne_eqb k 22 (λ z. omega arith))
 
-      by-holding : (f : Bool) → holdsInner k ≡ f → Told f
-      by-holding true h = rw (apart holdsInner k 20 true h refl, apart holdsInner k 21 true h refl, apart holdsInner k 22 true h refl)
+      by-holding : (f : Bool) → holds_inner k ≡ f → Told f
+      by-holding true h = rw (apart holds_inner k 20 true h refl, apart holds_inner k 21 true h refl, apart holds_inner k 22 true h refl)
       by-holding false h = by-limit h (ltb k 25) refl

@@ -3,7 +3,7 @@ use Rattle.std.specs.Prelude.{Bool, true, cond, not, ◌&&◌, ◌||◌, List, [
 use Rattle.type_numbers.specs.Limit as limit
 use Rattle.type_numbers.specs.Refusal as refusal
 use Rattle.type_numbers.specs.Kind as kind
-use Rattle.type_layers.specs.Layers.{Layer, layers, holdsInner}
+use Rattle.type_layers.specs.Layers.{Layer, layers, holds_inner}
 use Rattle.type_layers.specs.Answer.{Answer, given, refused}
 
 -- The place that a check stumbles over first, from 0; or none.
@@ -12,42 +12,42 @@ pub data Place : Type 0 where
   nowhere : Place
 
 -- "1 word count 0, over 48 or not a multiple of 3"
-abbrev pub badCount : ℕ → Bool
-badCount n = eqb n 0 || ltb limit.typeWords n || not (eqb (n % 3) 0)
+abbrev pub bad_count : ℕ → Bool
+bad_count n = eqb n 0 || ltb limit.type_words n || not (eqb (n % 3) 0)
 
 -- The three tests of a layer, one for each word. A kind is one of the 25.
-abbrev pub goodKind : Layer → Bool
-goodKind x = ltb x.kind kind.none
+abbrev pub good_kind : Layer → Bool
+good_kind x = ltb x.kind kind.none
 
 -- "Name is a u32 value for 15, 20, 21 and a named 22." "Other fields are 0."
 -- And so request e: "Under kind 22 a name is judged as named unless the number is 0."
 abbrev pub named : Layer → Bool
 named x =
-    eqb x.kind kind.arrayWithNamedLength
+    eqb x.kind kind.array_with_named_length
     || eqb x.kind kind.struct
     || eqb x.kind kind.word
-    || (eqb x.kind kind.unresolvedStructOrWord && not (eqb x.number 0))
+    || (eqb x.kind kind.unresolved_struct_or_word && not (eqb x.number 0))
 
-abbrev pub goodName : Layer → Bool
-goodName x = cond (named x) (leb x.name limit.name) (eqb x.name 0)
+abbrev pub good_name : Layer → Bool
+good_name x = cond (named x) (leb x.name limit.name) (eqb x.name 0)
 
 -- "Number is the length for 14, the size for 21, and for 22 it is 1 with a name, 0 without (name then 0)." "Other fields are 0."
-abbrev pub goodNumber : Layer → Bool
-goodNumber x =
+abbrev pub good_number : Layer → Bool
+good_number x =
     cond (eqb x.kind kind.array || eqb x.kind kind.word) true
-    (cond (eqb x.kind kind.unresolvedStructOrWord) (leb x.number 1)
+    (cond (eqb x.kind kind.unresolved_struct_or_word) (leb x.number 1)
     (eqb x.number 0))
 
 -- "2 a bad layer"
-unfoldable pub goodLayer : Layer → Bool
-goodLayer x = goodKind x && goodName x && goodNumber x
+unfoldable pub good_layer : Layer → Bool
+good_layer x = good_kind x && good_name x && good_number x
 
 -- The word that is told of a bad layer, by request e: "in it the first bad word, kind before name before number"
-unfoldable pub badWord : Layer → Place
-badWord x =
-    cond (not (goodKind x)) (at 0)
-    (cond (not (goodName x)) (at 1)
-    (cond (not (goodNumber x)) (at 2)
+unfoldable pub bad_word : Layer → Place
+bad_word x =
+    cond (not (good_kind x)) (at 0)
+    (cond (not (good_name x)) (at 1)
+    (cond (not (good_number x)) (at 2)
     nowhere))
 
 -- The place of the bad word of layer p; where there is none, what follows. So request e: "Let refusal 2 give layer and
@@ -57,15 +57,15 @@ word_in p (at w) c = at (3 * p + w)
 word_in p nowhere c = c
 
 -- The place of the first bad word in a run that starts with layer p: that of "the first bad layer".
-unfoldable pub badLayer : ℕ → List Layer → Place
-badLayer p [] = nowhere
-badLayer p (x ∷ a) = word_in p (badWord x) (badLayer (p + 1) a)
+unfoldable pub bad_layer : ℕ → List Layer → Place
+bad_layer p [] = nowhere
+bad_layer p (x ∷ a) = word_in p (bad_word x) (bad_layer (p + 1) a)
 
 -- "3 leaf early or missing": a layer that holds an inner type is never last, a leaf always is. "Refusal 3 keeps the layer."
 unfoldable pub misplaced : ℕ → List Layer → Place
 misplaced p [] = nowhere
-misplaced p (x ∷ []) = cond (holdsInner x.kind) (at p) nowhere
-misplaced p (x ∷ y ∷ a) = cond (holdsInner x.kind) (misplaced (p + 1) (y ∷ a)) (at p)
+misplaced p (x ∷ []) = cond (holds_inner x.kind) (at p) nowhere
+misplaced p (x ∷ y ∷ a) = cond (holds_inner x.kind) (misplaced (p + 1) (y ∷ a)) (at p)
 
 -- The refusal of that number where a place was found; else what follows.
 abbrev pub unless : Place → ℕ → Answer ℕ → Answer ℕ
@@ -73,9 +73,9 @@ unless (at p) n c = refused n p
 unless nowhere n c = c
 
 -- The layer count, or the first refusal.
-unfoldable pub checkOf : List ℕ → Answer ℕ
-checkOf ws =
-    cond (badCount (length ws)) (refused refusal.badCount 0)
-    (unless (badLayer 0 (layers ws)) refusal.badLayer
-    (unless (misplaced 0 (layers ws)) refusal.badLeaf
+unfoldable pub check_of : List ℕ → Answer ℕ
+check_of ws =
+    cond (bad_count (length ws)) (refused refusal.bad_count 0)
+    (unless (bad_layer 0 (layers ws)) refusal.bad_layer
+    (unless (misplaced 0 (layers ws)) refusal.bad_leaf
     (given (length ws / 3))))

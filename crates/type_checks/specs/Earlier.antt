@@ -4,21 +4,21 @@ use Rattle.std.specs.Prelude.{cond, List, [], ◌∷◌, ℕ, ◌+◌, ◌/◌, 
 use Rattle.type_numbers.specs.Refusal as refusal
 use Rattle.type_layers.specs.Layers.{Layer, layers}
 use Rattle.type_layers.specs.Answer.{Answer, given, nothing, refused}
-use Rattle.type_checks.specs.Check.{Place, at, nowhere, badCount, goodLayer, misplaced, unless}
+use Rattle.type_checks.specs.Check.{Place, at, nowhere, bad_count, good_layer, misplaced, unless}
 
-unfoldable pub earlierBadLayer : ℕ → List Layer → Place
-earlierBadLayer p [] = nowhere
-earlierBadLayer p (x ∷ a) = cond (goodLayer x) (earlierBadLayer (p + 1) a) (at p)
+unfoldable pub earlier_bad_layer : ℕ → List Layer → Place
+earlier_bad_layer p [] = nowhere
+earlier_bad_layer p (x ∷ a) = cond (good_layer x) (earlier_bad_layer (p + 1) a) (at p)
 
-unfoldable pub earlierCheckOf : List ℕ → Answer ℕ
-earlierCheckOf ws =
-    cond (badCount (length ws)) (refused refusal.badCount 0)
-    (unless (earlierBadLayer 0 (layers ws)) refusal.badLayer
-    (unless (misplaced 0 (layers ws)) refusal.badLeaf
+unfoldable pub earlier_check_of : List ℕ → Answer ℕ
+earlier_check_of ws =
+    cond (bad_count (length ws)) (refused refusal.bad_count 0)
+    (unless (earlier_bad_layer 0 (layers ws)) refusal.bad_layer
+    (unless (misplaced 0 (layers ws)) refusal.bad_leaf
     (given (length ws / 3))))
 
 -- An answer with the layer alone as the place of 2.
-abbrev pub withoutWord : Answer ℕ → Answer ℕ
-withoutWord (given n) = given n
-withoutWord nothing = nothing
-withoutWord (refused n p) = refused n (cond (eqb n refusal.badLayer) (p / 3) p)
+abbrev pub without_word : Answer ℕ → Answer ℕ
+without_word (given n) = given n
+without_word nothing = nothing
+without_word (refused n p) = refused n (cond (eqb n refusal.bad_layer) (p / 3) p)

@@ -1,13 +1,13 @@
 ghost use Rattle.std.specs.Prelude.{◌≡◌, not, ◌&&◌};
-ghost use Rattle.type_layers.specs.Layers.{layer, holdsInner};
-ghost use Rattle.type_checks.specs.Check.{goodLayer};
+ghost use Rattle.type_layers.specs.Layers.{layer, holds_inner};
+ghost use Rattle.type_checks.specs.Check.{good_layer};
 
 use type_layers::holds_inner;
 use type_numbers::{Kind, Limit};
 
 // Whether the three words are a layer that holds an inner type. Most have neither a name nor a number.
 pub(crate) fn good_holder(k: u64, n: u64, m: u64) -> bool
-    ensures { result ≡ (holdsInner k && goodLayer (layer k n m)) }
+    ensures { result ≡ (holds_inner k && good_layer (layer k n m)) }
 {
     if !holds_inner(k) {
         return false;
@@ -21,7 +21,7 @@ pub(crate) fn good_holder(k: u64, n: u64, m: u64) -> bool
 
 // Whether the three words are a layer that is a leaf. The kinds below the arrays have neither a name nor a number.
 pub(crate) fn good_leaf(k: u64, n: u64, m: u64) -> bool
-    ensures { result ≡ (not (holdsInner k) && goodLayer (layer k n m)) }
+    ensures { result ≡ (not (holds_inner k) && good_layer (layer k n m)) }
 {
     if k < Kind::ARRAY {
         return (n == 0) & (m == 0);

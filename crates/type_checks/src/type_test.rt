@@ -1,13 +1,13 @@
 ghost use Rattle.std.specs.Prelude.{◌≡◌};
-ghost use Rattle.type_layers.specs.Answer.{isGiven};
-ghost use Rattle.type_checks.specs.Check.{checkOf};
+ghost use Rattle.type_layers.specs.Answer.{is_given};
+ghost use Rattle.type_checks.specs.Check.{check_of};
 
 use crate::good_layers::{good_holder, good_leaf};
 use type_numbers::Limit;
 
 // Whether words pass the checks 1 to 3: layers that hold an inner type, and a leaf.
 pub fn is_type(ws: &[u64]) -> bool
-    ensures { result ≡ isGiven (checkOf ws.now) }
+    ensures { result ≡ is_given (check_of ws.now) }
 {
     let n = ws.len();
     if (n == 0) | (n > Limit::TYPE_WORDS) {

@@ -2,6 +2,6 @@
 use Rattle.std.specs.Prelude.{ℕ}
 use Rattle.type_checks.specs.Check.{Place, at, nowhere}
 
-abbrev pub wordOr3 : Place → ℕ
-wordOr3 (at w) = w
-wordOr3 nowhere = 3
+abbrev pub word_or3 : Place → ℕ
+word_or3 (at w) = w
+word_or3 nowhere = 3

@@ -1,7 +1,7 @@
 ghost use Rattle.std.specs.Prelude.{◌≡◌};
 ghost use Rattle.type_layers.specs.Layers.{layer};
-ghost use Rattle.type_checks.specs.Check.{goodName, goodNumber, badWord};
-ghost use Rattle.type_first_refusal.specs.AsCoded.{wordOr3};
+ghost use Rattle.type_checks.specs.Check.{good_name, good_number, bad_word};
+ghost use Rattle.type_first_refusal.specs.AsCoded.{word_or3};
 
 use type_numbers::{Kind, Limit};
 
@@ -10,7 +10,7 @@ pub(crate) const NO_WORD: u64 = 3;
 
 // Whether a layer of this kind and number may have this name.
 fn good_name(k: u64, n: u64, m: u64) -> bool
-    ensures { result ≡ goodName (layer k n m) }
+    ensures { result ≡ good_name (layer k n m) }
 {
     let named = (k == Kind::ARRAY_WITH_NAMED_LENGTH)
         | (k == Kind::STRUCT)
@@ -24,7 +24,7 @@ fn good_name(k: u64, n: u64, m: u64) -> bool
 
 // Whether a layer of this kind may have this number. The name is not looked at.
 fn good_number(k: u64, m: u64) -> bool
-    ensures { result ≡ goodNumber (layer k 0 m) }
+    ensures { result ≡ good_number (layer k 0 m) }
 {
     if (k == Kind::ARRAY) | (k == Kind::WORD) {
         return true;
@@ -38,7 +38,7 @@ fn good_number(k: u64, m: u64) -> bool
 
 // The first bad word of a layer: kind before name before number.
 pub(crate) fn bad_word(k: u64, n: u64, m: u64) -> u64
-    ensures { result ≡ wordOr3 (badWord (layer k n m)) }
+    ensures { result ≡ word_or3 (bad_word (layer k n m)) }
 {
     if k > Kind::VIEW {
         return 0;

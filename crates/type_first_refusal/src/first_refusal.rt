@@ -1,8 +1,8 @@
 ghost use Rattle.std.specs.Prelude.{◌≡◌, cond, not, ◌&&◌, eqb};
 ghost use Rattle.type_numbers.specs.Limit as limit;
-ghost use Rattle.type_layers.specs.Layers.{holdsInner};
-ghost use Rattle.type_layers.specs.Answer.{next, ofChecked};
-ghost use Rattle.type_checks.specs.Check.{checkOf};
+ghost use Rattle.type_layers.specs.Layers.{holds_inner};
+ghost use Rattle.type_layers.specs.Answer.{next, of_checked};
+ghost use Rattle.type_checks.specs.Check.{check_of};
 
 use crate::bad_word::{NO_WORD, bad_word};
 use type_checks::is_type;
@@ -14,7 +14,7 @@ const NOWHERE: u64 = Limit::LAYERS;
 
 // Whether a layer of this kind is a leaf early, or the last and no leaf.
 fn is_misplaced(k: u64, last: bool) -> bool
-    ensures { result ≡ cond (holdsInner k) last (not last) }
+    ensures { result ≡ cond (holds_inner k) last (not last) }
 {
     if holds_inner(k) { last } else { !last }
 }
@@ -32,7 +32,7 @@ fn earliest(found: u64, wrong: bool, place: u64) -> u64
 
 // What the checks say first. One pass: a bad word ends it at once, the first misplaced layer is remembered.
 fn first_refusal(ws: &[u64]) -> Checked
-    ensures { ofChecked result ≡ checkOf ws.now }
+    ensures { of_checked result ≡ check_of ws.now }
 {
     let n = ws.len();
     if (n == 0) | (n > Limit::TYPE_WORDS) | (n % 3 != 0) {
@@ -69,7 +69,7 @@ fn first_refusal(ws: &[u64]) -> Checked
 
 // The checks 1 to 3. Words that pass are told by a test that keeps no place; the others are looked at once more.
 pub fn check_type(ws: &[u64]) -> Checked
-    ensures { ofChecked result ≡ checkOf ws.now }
+    ensures { of_checked result ≡ check_of ws.now }
 {
     if is_type(ws) {
         Checked::Good((ws.len() / 3) as u64)
@@ -80,7 +80,7 @@ pub fn check_type(ws: &[u64]) -> Checked
 
 // The checks of two types, left before right.
 pub fn check_types(a: &[u64], b: &[u64]) -> Checked
-    ensures { ofChecked result ≡ next (checkOf a.now) (checkOf b.now) }
+    ensures { of_checked result ≡ next (check_of a.now) (check_of b.now) }
 {
     if is_type(a) {
         check_type(b)

@@ -10,7 +10,7 @@ use Rattle.type_layers.proofs.Apart.{verdict-apart}
 use Rattle.type_layers.proofs.sorts.is_array.Kinds as is-array-kinds
 use Rattle.type_layers.proofs.sorts.is_array.Reads as is-array
 use Rattle.type_layers.proofs.sorts.is_slice.Kinds as is-slice-kinds
-use Rattle.type_layers.proofs.sorts.is_slice.Reads as is_Slice
+use Rattle.type_layers.proofs.sorts.is_slice.Reads as is-slice
 use Rattle.type_layers.proofs.sorts.is_reference.Kinds as is-reference-kinds
 use Rattle.type_layers.proofs.sorts.is_reference.Reads as is-reference
 use Rattle.type_layers.proofs.sorts.holds_inner.Kinds as holds-inner-kinds
@@ -32,7 +32,7 @@ of-single κs a x y s t p q = verdict-apart x y (p ∙ sym q)
 pub is-array-single : Single 0 is-array-kinds.ps is-array-kinds.r is-array.Post
 is-array-single κs a x y s t p q = p ∙ sym q
 
-pub is-slice-single : Single 0 is-slice-kinds.ps is-slice-kinds.r is_Slice.Post
+pub is-slice-single : Single 0 is-slice-kinds.ps is-slice-kinds.r is-slice.Post
 is-slice-single κs a x y s t p q = p ∙ sym q
 
 pub is-reference-single : Single 0 is-reference-kinds.ps is-reference-kinds.r is-reference.Post

@@ -12,21 +12,21 @@ pub data Answer (A : Type 0) : Type 0 where
   refused : ℕ → ℕ → Answer A
 
 -- Whether there is a value.
-abbrev pub isGiven : {A : Type 0} → Answer A → Bool
-isGiven (given v) = true
-isGiven nothing = false
-isGiven (refused n p) = false
+abbrev pub is_given : {A : Type 0} → Answer A → Bool
+is_given (given v) = true
+is_given nothing = false
+is_given (refused n p) = false
 
 -- What passes checks gives a number: of a type's words, how many layers they are.
-abbrev pub ofChecked : Checked → Answer ℕ
-ofChecked (checked.Good n) = given n
-ofChecked (checked.Refused n p) = refused n p
+abbrev pub of_checked : Checked → Answer ℕ
+of_checked (checked.Good n) = given n
+of_checked (checked.Refused n p) = refused n p
 
 -- Yes is 1, no is 0.
-abbrev pub ofVerdict : Verdict → Answer ℕ
-ofVerdict verdict.Yes = given 1
-ofVerdict verdict.No = given 0
-ofVerdict (verdict.Refused n p) = refused n p
+abbrev pub of_verdict : Verdict → Answer ℕ
+of_verdict verdict.Yes = given 1
+of_verdict verdict.No = given 0
+of_verdict (verdict.Refused n p) = refused n p
 
 -- A refusal stands; else what follows.
 abbrev pub next : {A B : Type 0} → Answer A → Answer B → Answer B

@@ -6,7 +6,7 @@ use Rattle.type_layers.specs.Layers.{Layer, layer}
 -- Words that are whole layers, "1 to 16 layers" at most.
 pub record Whole (ws : List ℕ) : Type 0 where
   pub whole : length ws % 3 ≡ 0
-  pub few : length ws ≤ limit.typeWords
+  pub few : length ws ≤ limit.type_words
 
 -- The outer layer of a type's words, as the code reads it.
 abbrev pub head : List ℕ → Layer

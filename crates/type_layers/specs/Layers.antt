@@ -24,18 +24,18 @@ spelled [] = []
 spelled (x ∷ a) = x.kind ∷ x.name ∷ x.number ∷ spelled a
 
 -- The kinds that hold an inner type: arrays of any sort, slices, references.
-abbrev pub isArray : ℕ → Bool
-isArray k = eqb k kind.array || eqb k kind.arrayWithNamedLength || eqb k kind.endlessArray || eqb k kind.arraylike
+abbrev pub is_array : ℕ → Bool
+is_array k = eqb k kind.array || eqb k kind.array_with_named_length || eqb k kind.endless_array || eqb k kind.arraylike
 
 abbrev pub is_slice : ℕ → Bool
-is_slice k = eqb k kind.slice || eqb k kind.slicePointer
+is_slice k = eqb k kind.slice || eqb k kind.slice_pointer
 
-abbrev pub isReference : ℕ → Bool
-isReference k = eqb k kind.pointer || eqb k kind.view
+abbrev pub is_reference : ℕ → Bool
+is_reference k = eqb k kind.pointer || eqb k kind.view
 
 -- "Kinds 14-19, 23, 24 are never last, all others always."
-abbrev pub holdsInner : ℕ → Bool
-holdsInner k = isArray k || is_slice k || isReference k
+abbrev pub holds_inner : ℕ → Bool
+holds_inner k = is_array k || is_slice k || is_reference k
 
 -- The outer layer's kind; of no layer 25, which is no kind.
 unfoldable pub outer : List Layer → ℕ
@@ -48,5 +48,5 @@ inside [] = []
 inside (x ∷ a) = a
 
 -- "The inner type is the caller's own words from the next layer on".
-abbrev pub innerWords : List ℕ → List ℕ
-innerWords ws = drop 3 ws
+abbrev pub inner_words : List ℕ → List ℕ
+inner_words ws = drop 3 ws

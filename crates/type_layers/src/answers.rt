@@ -1,5 +1,5 @@
 ghost use Rattle.std.specs.Prelude.{◌≡◌};
-ghost use Rattle.type_layers.specs.Answer.{ofVerdict, truth};
+ghost use Rattle.type_layers.specs.Answer.{of_verdict, truth};
 
 // What checks say: a number of what passes them, such as how many layers a type has, or a refusal.
 #[derive(Drop)]
@@ -18,7 +18,7 @@ pub enum Verdict {
 
 impl Verdict {
     pub fn of(yes: bool) -> Verdict
-        ensures { ofVerdict result ≡ truth yes }
+        ensures { of_verdict result ≡ truth yes }
     {
         if yes { Verdict::Yes } else { Verdict::No }
     }

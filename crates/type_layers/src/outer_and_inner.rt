@@ -1,6 +1,6 @@
 ghost use Rattle.std.specs.Prelude.{◌≡◌};
 ghost use Rattle.type_layers.specs.Layers as rules;
-ghost use Rattle.type_layers.specs.Layers.{layers, innerWords};
+ghost use Rattle.type_layers.specs.Layers.{layers, inner_words};
 
 use type_numbers::Kind;
 
@@ -13,7 +13,7 @@ pub fn outer(a: &[u64]) -> u64
 
 // The inner type: the caller's own words from the next layer on; of no layer no words.
 pub fn inner(a: &[u64]) -> &[u64]
-    ensures { result.now ≡ innerWords a.now }
+    ensures { result.now ≡ inner_words a.now }
 {
     if a.len() < 3 {
         return &a[..0];

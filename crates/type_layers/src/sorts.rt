@@ -5,7 +5,7 @@ use type_numbers::Kind;
 
 // The kinds that hold an inner type, by their sort.
 pub fn is_array(k: u64) -> bool
-    ensures { result ≡ rules.isArray k }
+    ensures { result ≡ rules.is_array k }
 {
     (k == Kind::ARRAY)
         | (k == Kind::ARRAY_WITH_NAMED_LENGTH)
@@ -20,14 +20,14 @@ pub fn is_slice(k: u64) -> bool
 }
 
 pub fn is_reference(k: u64) -> bool
-    ensures { result ≡ rules.isReference k }
+    ensures { result ≡ rules.is_reference k }
 {
     (k == Kind::POINTER) | (k == Kind::VIEW)
 }
 
 // Whether a layer of this kind holds an inner type.
 pub fn holds_inner(k: u64) -> bool
-    ensures { result ≡ rules.holdsInner k }
+    ensures { result ≡ rules.holds_inner k }
 {
     is_array(k) | is_slice(k) | is_reference(k)
 }

@@ -4,8 +4,8 @@ use Rattle.std.specs.Prelude.{ℕ}
 abbrev pub none : ℕ
 none = 0
 
-abbrev pub asValue : ℕ
-asValue = 1
+abbrev pub as_value : ℕ
+as_value = 1
 
 abbrev pub by_address : ℕ
 by_address = 2

@@ -6,12 +6,12 @@ abbrev pub kept : ℕ
 kept = 0
 
 -- "type replaced, identifier kept"
-abbrev pub typeReplaced : ℕ
-typeReplaced = 1
+abbrev pub type_replaced : ℕ
+type_replaced = 1
 
 -- "both replaced"
-abbrev pub bothReplaced : ℕ
-bothReplaced = 2
+abbrev pub both_replaced : ℕ
+both_replaced = 2
 
 -- A free record was taken.
 abbrev pub inserted : ℕ

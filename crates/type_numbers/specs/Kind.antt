@@ -46,17 +46,17 @@ bool = 13
 abbrev pub array : ℕ
 array = 14
 
-abbrev pub arrayWithNamedLength : ℕ
-arrayWithNamedLength = 15
+abbrev pub array_with_named_length : ℕ
+array_with_named_length = 15
 
 abbrev pub slice : ℕ
 slice = 16
 
-abbrev pub slicePointer : ℕ
-slicePointer = 17
+abbrev pub slice_pointer : ℕ
+slice_pointer = 17
 
-abbrev pub endlessArray : ℕ
-endlessArray = 18
+abbrev pub endless_array : ℕ
+endless_array = 18
 
 abbrev pub arraylike : ℕ
 arraylike = 19
@@ -67,8 +67,8 @@ struct = 20
 abbrev pub word : ℕ
 word = 21
 
-abbrev pub unresolvedStructOrWord : ℕ
-unresolvedStructOrWord = 22
+abbrev pub unresolved_struct_or_word : ℕ
+unresolved_struct_or_word = 22
 
 abbrev pub pointer : ℕ
 pointer = 23

@@ -12,18 +12,18 @@ abbrev pub yes : ℕ
 yes = 2
 
 -- A Member's: "offset present 0/1".
-abbrev pub noOffset : ℕ
-noOffset = 0
+abbrev pub no_offset : ℕ
+no_offset = 0
 
 abbrev pub offset : ℕ
 offset = 1
 
 -- An Autodeslice's: "mark 0 by view, 1 by pointer, 2 length".
-abbrev pub byView : ℕ
-byView = 0
+abbrev pub by_view : ℕ
+by_view = 0
 
-abbrev pub byPointer : ℕ
-byPointer = 1
+abbrev pub by_pointer : ℕ
+by_pointer = 1
 
-abbrev pub byLength : ℕ
-byLength = 2
+abbrev pub by_length : ℕ
+by_length = 2

@@ -9,61 +9,61 @@ use lib.Dec.{eqb}
 use lib.ListN.{length, length-drop}
 use borrow.Author.Tests.{ne_eqb, eqb-true}
 use Rattle.type_numbers.specs.Kind as kind
-use Rattle.type_layers.specs.Layers.{Layer, layers, outer, isArray, is_slice, isReference, holdsInner}
-use Rattle.type_layers.specs.Answer.{Answer, given, nothing, ofChecked, isGiven}
+use Rattle.type_layers.specs.Layers.{Layer, layers, outer, is_array, is_slice, is_reference, holds_inner}
+use Rattle.type_layers.specs.Answer.{Answer, given, nothing, of_checked, is_given}
 use Rattle.type_layers.specs.declared.answers.Checked.{Checked}
 use Rattle.type_layers.specs.declared.answers.Checked.TheVariants.{Good}
-use Rattle.type_checks.specs.Check.{nowhere, misplaced, checkOf}
+use Rattle.type_checks.specs.Check.{nowhere, misplaced, check_of}
 use Rattle.type_checks.proofs.Passing.{counted-by}
 use Rattle.type_checks.proofs.Accepted.{placed-inside, accepted-placed, accepted-count, accepted-inside}
-use Rattle.type_parts.specs.Parts.{innerIf, elementOf, pointeeOf, vieweeOf, references, fullyDereferenced, hasElement, hasPointee, hasViewee}
-use Rattle.type_part_starts.specs.PartStarts.{innerStart, start_in}
+use Rattle.type_parts.specs.Parts.{inner_if, element_of, pointee_of, viewee_of, references, fully_dereferenced, has_element, has_pointee, has_viewee}
+use Rattle.type_part_starts.specs.PartStarts.{inner_start, start_in}
 use Rattle.type_part_starts.specs.declared.part_starts.Part.{Part}
 use Rattle.type_part_starts.specs.declared.part_starts.Part.TheVariants as part
 
 -- no part has more words than the type
 module _ (ws l : List ℕ) where
-  inner-short : (f : Bool) → l ≡ innerIf f ws → length l ≤ length ws
+  inner-short : (f : Bool) → l ≡ inner_if f ws → length l ≤ length ws
   inner-short true e = rw e (simp length-drop (omega arith))
   inner-short false e = rw e (omega arith)
 
-  pub element-short : l ≡ elementOf ws → length l ≤ length ws
-  unfolding elementOf
-  element-short e = inner-short (hasElement (outer (layers ws))) e
+  pub element-short : l ≡ element_of ws → length l ≤ length ws
+  unfolding element_of
+  element-short e = inner-short (has_element (outer (layers ws))) e
 
-  pub pointee-short : l ≡ pointeeOf ws → length l ≤ length ws
-  unfolding pointeeOf
-  pointee-short e = inner-short (hasPointee (outer (layers ws))) e
+  pub pointee-short : l ≡ pointee_of ws → length l ≤ length ws
+  unfolding pointee_of
+  pointee-short e = inner-short (has_pointee (outer (layers ws))) e
 
-  pub viewee-short : l ≡ vieweeOf ws → length l ≤ length ws
-  unfolding vieweeOf
-  viewee-short e = inner-short (hasViewee (outer (layers ws))) e
+  pub viewee-short : l ≡ viewee_of ws → length l ≤ length ws
+  unfolding viewee_of
+  viewee-short e = inner-short (has_viewee (outer (layers ws))) e
 
-  pub dereferenced-short : l ≡ fullyDereferenced ws → length l ≤ length ws
-  unfolding fullyDereferenced
+  pub dereferenced-short : l ≡ fully_dereferenced ws → length l ≤ length ws
+  unfolding fully_dereferenced
   dereferenced-short e = rw e (simp length-drop (omega arith))
 
 -- the Pointers and Views outside are not all the layers
 references-fewer : (p : ℕ) (a : List Layer) → misplaced p a ≡ nowhere → 0 < length a → references a < length a
 unfolding references
 references-fewer p [] e h = h
-references-fewer p (x ∷ a) e h = by_kind (isReference x.kind) refl (references-fewer (p + 1) a)
+references-fewer p (x ∷ a) e h = by_kind (is_reference x.kind) refl (references-fewer (p + 1) a)
   where
-    holds : isReference x.kind ≡ true → holdsInner x.kind ≡ true
-    holds f = rw f (or-true (isArray x.kind || is_slice x.kind))
+    holds : is_reference x.kind ≡ true → holds_inner x.kind ≡ true
+    holds f = rw f (or-true (is_array x.kind || is_slice x.kind))
 
-    by_kind : (b : Bool) → isReference x.kind ≡ b → (misplaced (p + 1) a ≡ nowhere → 0 < length a → references a < length a) →
+    by_kind : (b : Bool) → is_reference x.kind ≡ b → (misplaced (p + 1) a ≡ nowhere → 0 < length a → references a < length a) →
         cond b (references a + 1) 0 < length (x ∷ a)
     by_kind true f fewer = let i = placed-inside p x a e (holds f) in omega (arith, fewer i.1 i.0)
     by_kind false f fewer = omega arith
 
 -- words that pass the checks
 module _ (ws : List ℕ) where
-  pub passes : (c : Checked) (i : ℕ) → ofChecked c ≡ checkOf ws → c ≡ Good i → isGiven (checkOf ws) ≡ true
+  pub passes : (c : Checked) (i : ℕ) → of_checked c ≡ check_of ws → c ≡ Good i → is_given (check_of ws) ≡ true
   passes c i e h = rw (← e, h)
 
-  module _ (g : isGiven (checkOf ws) ≡ true) where
-    count : checkOf ws ≡ given (length ws / 3)
+  module _ (g : is_given (check_of ws) ≡ true) where
+    count : check_of ws ≡ given (length ws / 3)
     count = sym (counted-by ws true (sym g) refl)
 
     -- where a part starts, by its words
@@ -75,7 +75,7 @@ module _ (ws : List ℕ) where
         let d : length ws - length l ≡ n = omega arith in
         rw (ne_eqb (length l) 0 (λ z. omega arith), d)
 
-    inner-measured : (f : Bool) (l : List ℕ) → (f ≡ true → holdsInner (outer (layers ws)) ≡ true) → l ≡ innerIf f ws → measured l ≡ innerStart f
+    inner-measured : (f : Bool) (l : List ℕ) → (f ≡ true → holds_inner (outer (layers ws)) ≡ true) → l ≡ inner_if f ws → measured l ≡ inner_start f
     inner-measured true l h e =
         let m = accepted-inside ws (length ws / 3) count (h refl) in
         let k : length l ≡ length ws - 3 = ap length e ∙ length-drop 3 ws in
@@ -84,20 +84,20 @@ module _ (ws : List ℕ) where
 
     -- where a part starts, by the part that was asked for
     module _ (p : Part) (r : Answer ℕ) (l : List ℕ) (q : r ≡ measured l) where
-      pub at-element : p ≡ part.Element → l ≡ elementOf ws → r ≡ start_in p (layers ws)
-      unfolding start_in elementOf
-      at-element h e = rw h (q ∙ inner-measured (hasElement (outer (layers ws))) l (λ f. rw f) e)
+      pub at-element : p ≡ part.Element → l ≡ element_of ws → r ≡ start_in p (layers ws)
+      unfolding start_in element_of
+      at-element h e = rw h (q ∙ inner-measured (has_element (outer (layers ws))) l (λ f. rw f) e)
 
-      pub at-pointee : p ≡ part.Pointee → l ≡ pointeeOf ws → r ≡ start_in p (layers ws)
-      unfolding start_in pointeeOf
-      at-pointee h e = rw h (q ∙ inner-measured (hasPointee (outer (layers ws))) l (λ f. rw (eqb-true (outer (layers ws)) kind.pointer f)) e)
+      pub at-pointee : p ≡ part.Pointee → l ≡ pointee_of ws → r ≡ start_in p (layers ws)
+      unfolding start_in pointee_of
+      at-pointee h e = rw h (q ∙ inner-measured (has_pointee (outer (layers ws))) l (λ f. rw (eqb-true (outer (layers ws)) kind.pointer f)) e)
 
-      pub at-viewee : p ≡ part.Viewee → l ≡ vieweeOf ws → r ≡ start_in p (layers ws)
-      unfolding start_in vieweeOf
-      at-viewee h e = rw h (q ∙ inner-measured (hasViewee (outer (layers ws))) l (λ f. rw (eqb-true (outer (layers ws)) kind.view f)) e)
+      pub at-viewee : p ≡ part.Viewee → l ≡ viewee_of ws → r ≡ start_in p (layers ws)
+      unfolding start_in viewee_of
+      at-viewee h e = rw h (q ∙ inner-measured (has_viewee (outer (layers ws))) l (λ f. rw (eqb-true (outer (layers ws)) kind.view f)) e)
 
-      pub at-dereferenced : p ≡ part.Dereferenced → l ≡ fullyDereferenced ws → r ≡ start_in p (layers ws)
-      unfolding start_in fullyDereferenced
+      pub at-dereferenced : p ≡ part.Dereferenced → l ≡ fully_dereferenced ws → r ≡ start_in p (layers ws)
+      unfolding start_in fully_dereferenced
       at-dereferenced h e =
           let c = accepted-count ws (length ws / 3) count in
           let n = references-fewer 0 (layers ws) (accepted-placed ws (length ws / 3) count) c.1 in

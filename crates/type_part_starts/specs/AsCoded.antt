@@ -5,7 +5,7 @@ use Rattle.type_part_starts.specs.declared.part_starts.Start.{Start}
 use Rattle.type_part_starts.specs.declared.part_starts.Start.TheVariants as start
 
 -- The word at which a part starts, or that there is no such part.
-abbrev pub ofStart : Start → Answer ℕ
-ofStart (start.At n) = given n
-ofStart start.Nothing = nothing
-ofStart (start.Refused n p) = refused n p
+abbrev pub of_start : Start → Answer ℕ
+of_start (start.At n) = given n
+of_start start.Nothing = nothing
+of_start (start.Refused n p) = refused n p

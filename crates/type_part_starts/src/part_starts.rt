@@ -1,9 +1,9 @@
 ghost use Rattle.std.specs.Prelude.{◌≡◌, true, cond, ◌-◌, ◌≤◌, eqb, length};
 ghost use Rattle.type_layers.specs.Layers.{layers};
-ghost use Rattle.type_layers.specs.Answer.{given, nothing, isGiven};
-ghost use Rattle.type_checks.specs.Check.{checkOf};
-ghost use Rattle.type_part_starts.specs.PartStarts.{start_in, startAnswer};
-ghost use Rattle.type_part_starts.specs.AsCoded.{ofStart};
+ghost use Rattle.type_layers.specs.Answer.{given, nothing, is_given};
+ghost use Rattle.type_checks.specs.Check.{check_of};
+ghost use Rattle.type_part_starts.specs.PartStarts.{start_in, start_answer};
+ghost use Rattle.type_part_starts.specs.AsCoded.{of_start};
 
 use type_first_refusal::check_type;
 use type_layers::Checked;
@@ -29,7 +29,7 @@ pub enum Start {
 // Where a part starts that reaches to the last word; a part without words is none.
 fn start_at(a: &[u64], part: &[u64]) -> Start
     requires { length part.now ≤ length a.now }
-    ensures { ofStart result
+    ensures { of_start result
         ≡ cond (eqb (length part.now) 0) nothing (given (length a.now - length part.now)) }
 {
     if part.len() == 0 {
@@ -40,8 +40,8 @@ fn start_at(a: &[u64], part: &[u64]) -> Start
 
 // Where a part starts of words that pass the checks.
 fn start_in(part: Part, a: &[u64]) -> Start
-    requires { isGiven (checkOf a.now) ≡ true }
-    ensures { ofStart result ≡ start_in part (layers a.now) }
+    requires { is_given (check_of a.now) ≡ true }
+    ensures { of_start result ≡ start_in part (layers a.now) }
 {
     match part {
         Part::Element => start_at(a, get_element_type(a)),
@@ -53,7 +53,7 @@ fn start_in(part: Part, a: &[u64]) -> Start
 
 // Where a part of a type starts, for any words.
 pub fn start_of(part: Part, a: &[u64]) -> Start
-    ensures { ofStart result ≡ startAnswer part a.now }
+    ensures { of_start result ≡ start_answer part a.now }
 {
     match check_type(a) {
         Checked::Refused { number, place } => Start::Refused { number, place },

@@ -1,18 +1,18 @@
 ghost use Rattle.std.specs.Prelude.{◌≡◌};
-ghost use Rattle.type_parts.specs.Parts.{elementOf, pointeeOf, vieweeOf, fullyDereferenced, hasElement, innerIf};
+ghost use Rattle.type_parts.specs.Parts.{element_of, pointee_of, viewee_of, fully_dereferenced, has_element, inner_if};
 
 use type_layers::{inner, is_array, is_reference, is_slice, outer};
 use type_numbers::Kind;
 
 fn has_element(k: u64) -> bool
-    ensures { result ≡ hasElement k }
+    ensures { result ≡ has_element k }
 {
     is_array(k) | is_slice(k)
 }
 
 // The inner type where the type has it; else no words.
 fn inner_if(there: bool, a: &[u64]) -> &[u64]
-    ensures { result.now ≡ innerIf there a.now }
+    ensures { result.now ≡ inner_if there a.now }
 {
     if there {
         return inner(a);
@@ -22,28 +22,28 @@ fn inner_if(there: bool, a: &[u64]) -> &[u64]
 
 // The element type of an array or a slice; of any other type no words.
 pub fn get_element_type(a: &[u64]) -> &[u64]
-    ensures { result.now ≡ elementOf a.now }
+    ensures { result.now ≡ element_of a.now }
 {
     inner_if(has_element(outer(a)), a)
 }
 
 // The type that a Pointer points to; of any other type no words.
 pub fn get_pointee_type(a: &[u64]) -> &[u64]
-    ensures { result.now ≡ pointeeOf a.now }
+    ensures { result.now ≡ pointee_of a.now }
 {
     inner_if(outer(a) == Kind::POINTER, a)
 }
 
 // The type that a View views; of any other type no words.
 pub fn get_viewee_type(a: &[u64]) -> &[u64]
-    ensures { result.now ≡ vieweeOf a.now }
+    ensures { result.now ≡ viewee_of a.now }
 {
     inner_if(outer(a) == Kind::VIEW, a)
 }
 
 // The type without the Pointers and Views that stand outside everything else.
 pub fn fully_dereferenced(a: &[u64]) -> &[u64]
-    ensures { result.now ≡ fullyDereferenced a.now }
+    ensures { result.now ≡ fully_dereferenced a.now }
 {
     if a.len() < 3 {
         return a;

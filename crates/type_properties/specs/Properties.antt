@@ -3,7 +3,7 @@ use Rattle.std.specs.Prelude.{Bool, ◌||◌, List, ℕ, eqb}
 use Rattle.type_numbers.specs.Kind as kind
 use Rattle.type_layers.specs.Layers.{layers, outer}
 use Rattle.type_layers.specs.Answer.{Answer, next, truth}
-use Rattle.type_checks.specs.Check.{checkOf}
+use Rattle.type_checks.specs.Check.{check_of}
 use Rattle.type_properties.specs.declared.properties.Property.{Property}
 use Rattle.type_properties.specs.declared.properties.Property.TheVariants as property
 
@@ -22,7 +22,7 @@ holds property.Void k = eqb k kind.void
 holds property.Integral k = integral k
 holds property.Signed k = signed k
 holds property.Bitfield k = bitfield k
-holds property.SlicePointer k = eqb k kind.slicePointer
+holds property.SlicePointer k = eqb k kind.slice_pointer
 
-unfoldable pub propertyAnswer : Property → List ℕ → Answer ℕ
-propertyAnswer p ws = next (checkOf ws) (truth (holds p (outer (layers ws))))
+unfoldable pub property_answer : Property → List ℕ → Answer ℕ
+property_answer p ws = next (check_of ws) (truth (holds p (outer (layers ws))))

@@ -1,6 +1,6 @@
 ghost use Rattle.std.specs.Prelude.{◌≡◌, eqb};
 ghost use Rattle.type_numbers.specs.Kind as kind;
-ghost use Rattle.type_layers.specs.Answer.{ofVerdict};
+ghost use Rattle.type_layers.specs.Answer.{of_verdict};
 ghost use Rattle.type_properties.specs.Properties as properties;
 
 use type_first_refusal::check_type;
@@ -50,7 +50,7 @@ fn is_integral(k: u64) -> bool
 }
 
 fn is_slice_pointer(k: u64) -> bool
-    ensures { result ≡ eqb k kind.slicePointer }
+    ensures { result ≡ eqb k kind.slice_pointer }
 {
     k == Kind::SLICE_POINTER
 }
@@ -69,7 +69,7 @@ fn holds(property: Property, k: u64) -> bool
 
 // Whether any words are a type that has the property.
 pub fn has(property: Property, a: &[u64]) -> Verdict
-    ensures { ofVerdict result ≡ properties.propertyAnswer property a.now }
+    ensures { of_verdict result ≡ properties.property_answer property a.now }
 {
     match check_type(a) {
         Checked::Refused { number, place } => Verdict::Refused { number, place },

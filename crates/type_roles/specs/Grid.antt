@@ -12,8 +12,8 @@ refused = 0
 abbrev pub allowed : ℕ
 allowed = 1
 
-abbrev pub allowedWhenWellFormed : ℕ
-allowedWhenWellFormed = 2
+abbrev pub allowed_when_well_formed : ℕ
+allowed_when_well_formed = 2
 
 -- What an entry says of a type that is well formed or not.
 abbrev pub says : ℕ → Bool → Bool
@@ -22,7 +22,7 @@ says e formed = cond (eqb e refused) false (cond (eqb e allowed) true formed)
 -- What stands in a role's row under a kind. Where the role does not refuse the kind, it depends on whether the role takes
 -- a type that is ill formed.
 abbrev pub entry_of : Role → ℕ → ℕ
-entry_of r k = cond (refuses r k) refused (cond (needs r false true) allowed allowedWhenWellFormed)
+entry_of r k = cond (refuses r k) refused (cond (needs r false true) allowed allowed_when_well_formed)
 
 -- "Hold them as seven rows of twenty-five entries, an array of arrays": n entries of a row, from kind k on; a row, which has
 -- as many as there are kinds, 25; the grid.
@@ -45,5 +45,5 @@ grid =
     ∷ []
 
 -- "word member's extra size test stays apart": what a role needs besides, of a type that is well formed.
-abbrev pub sizeTest : Role → Bool → Bool
-sizeTest r known = needs r true known
+abbrev pub size_test : Role → Bool → Bool
+size_test r known = needs r true known

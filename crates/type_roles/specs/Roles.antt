@@ -2,47 +2,47 @@
 use Rattle.std.specs.Prelude.{Bool, true, not, ◌&&◌, ◌||◌, List, ℕ, eqb}
 use Rattle.type_numbers.specs.Kind as kind
 use Rattle.type_layers.specs.Layers.{Layer, layers, outer}
-use Rattle.type_layers.specs.Answer.{Answer, next, truth, isGiven}
-use Rattle.type_checks.specs.Check.{checkOf}
-use Rattle.type_size_and_depth.specs.Known.{knownSize}
-use Rattle.type_wellformed.specs.WellFormed.{wellFormed}
+use Rattle.type_layers.specs.Answer.{Answer, next, truth, is_given}
+use Rattle.type_checks.specs.Check.{check_of}
+use Rattle.type_size_and_depth.specs.Known.{known_size}
+use Rattle.type_wellformed.specs.WellFormed.{well_formed}
 use Rattle.type_roles.specs.declared.role.Role.{Role}
 use Rattle.type_roles.specs.declared.role.Role.TheVariants as role
 
 -- The kinds that each of them lists; `can_be_word_member` asks `can_be_struct_member`, which lists those of `can_be_sized`.
-abbrev pub isUnsized : ℕ → Bool
-isUnsized k =
+abbrev pub is_unsized : ℕ → Bool
+is_unsized k =
     eqb k kind.void
     || eqb k kind.slice
-    || eqb k kind.slicePointer
-    || eqb k kind.endlessArray
+    || eqb k kind.slice_pointer
+    || eqb k kind.endless_array
     || eqb k kind.arraylike
     || eqb k kind.view
 
 abbrev pub refuses : Role → ℕ → Bool
-refuses role.Sized k = isUnsized k
-refuses role.StructMember k = isUnsized k
-refuses role.WordMember k = isUnsized k
+refuses role.Sized k = is_unsized k
+refuses role.StructMember k = is_unsized k
+refuses role.WordMember k = is_unsized k
 refuses role.Constant k =
-    eqb k kind.void || eqb k kind.slice || eqb k kind.slicePointer || eqb k kind.endlessArray || eqb k kind.arraylike
+    eqb k kind.void || eqb k kind.slice || eqb k kind.slice_pointer || eqb k kind.endless_array || eqb k kind.arraylike
 refuses role.Variable k =
-    eqb k kind.void || eqb k kind.slicePointer || eqb k kind.endlessArray || eqb k kind.arraylike || eqb k kind.view
+    eqb k kind.void || eqb k kind.slice_pointer || eqb k kind.endless_array || eqb k kind.arraylike || eqb k kind.view
 refuses role.Parameter k =
     eqb k kind.void
     || eqb k kind.array
-    || eqb k kind.arrayWithNamedLength
-    || eqb k kind.endlessArray
+    || eqb k kind.array_with_named_length
+    || eqb k kind.endless_array
     || eqb k kind.arraylike
     || eqb k kind.struct
 refuses role.Returned k =
     eqb k kind.array
-    || eqb k kind.arrayWithNamedLength
+    || eqb k kind.array_with_named_length
     || eqb k kind.slice
-    || eqb k kind.slicePointer
-    || eqb k kind.endlessArray
+    || eqb k kind.slice_pointer
+    || eqb k kind.endless_array
     || eqb k kind.arraylike
     || eqb k kind.struct
-    || eqb k kind.unresolvedStructOrWord
+    || eqb k kind.unresolved_struct_or_word
     || eqb k kind.view
 
 -- "all but sized also need the type well formed"; "a word member needs" a known size
@@ -55,8 +55,8 @@ needs role.Variable formed known = formed
 needs role.Parameter formed known = formed
 needs role.Returned formed known = formed
 
-unfoldable pub canBe : Role → List Layer → Bool
-canBe r a = not (refuses r (outer a)) && needs r (wellFormed a) (isGiven (knownSize a))
+unfoldable pub can_be : Role → List Layer → Bool
+can_be r a = not (refuses r (outer a)) && needs r (well_formed a) (is_given (known_size a))
 
-unfoldable pub roleAnswer : Role → List ℕ → Answer ℕ
-roleAnswer r ws = next (checkOf ws) (truth (canBe r (layers ws)))
+unfoldable pub role_answer : Role → List ℕ → Answer ℕ
+role_answer r ws = next (check_of ws) (truth (can_be r (layers ws)))

@@ -1,7 +1,7 @@
 ghost use Rattle.std.specs.Prelude.{◌≡◌, ◌<◌, get_or};
 ghost use Rattle.type_numbers.specs.Kind as kind;
 ghost use Rattle.type_layers.specs.Layers.{layers};
-ghost use Rattle.type_wellformed.specs.WellFormed.{wellFormed};
+ghost use Rattle.type_wellformed.specs.WellFormed.{well_formed};
 ghost use Rattle.type_roles.specs.Grid as rules;
 
 use crate::role::Role;
@@ -61,7 +61,7 @@ pub(crate) fn entry_of(role: Role, k: u64) -> u8
 
 // What an entry says of a type; whether that is well formed is asked only where the entry does not tell.
 pub(crate) fn says(entry: u8, a: &[u64]) -> bool
-    ensures { result ≡ rules.says entry (wellFormed (layers a.now)) }
+    ensures { result ≡ rules.says entry (well_formed (layers a.now)) }
 {
     if entry == R {
         return false;

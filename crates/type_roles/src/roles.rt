@@ -1,7 +1,7 @@
 ghost use Rattle.std.specs.Prelude.{◌≡◌};
 ghost use Rattle.type_layers.specs.Layers.{layers};
-ghost use Rattle.type_layers.specs.Answer.{ofVerdict, isGiven};
-ghost use Rattle.type_size_and_depth.specs.Known.{knownSize};
+ghost use Rattle.type_layers.specs.Answer.{of_verdict, is_given};
+ghost use Rattle.type_size_and_depth.specs.Known.{known_size};
 ghost use Rattle.type_roles.specs.Grid as grid;
 ghost use Rattle.type_roles.specs.Roles as roles;
 
@@ -12,7 +12,7 @@ use type_layers::{Checked, Verdict, outer};
 use type_size_and_depth::{Size, known_size};
 
 fn has_known_size(a: &[u64]) -> bool
-    ensures { result ≡ isGiven (knownSize (layers a.now)) }
+    ensures { result ≡ is_given (known_size (layers a.now)) }
 {
     match known_size(a) {
         Size::Bytes(_) => true,
@@ -26,7 +26,7 @@ fn has_known_size(a: &[u64]) -> bool
 
 // A word member needs a known size, which the grid does not tell.
 fn size_test(role: Role, a: &[u64]) -> bool
-    ensures { result ≡ grid.sizeTest role (isGiven (knownSize (layers a.now))) }
+    ensures { result ≡ grid.size_test role (is_given (known_size (layers a.now))) }
 {
     match role {
         Role::Sized => true,
@@ -41,7 +41,7 @@ fn size_test(role: Role, a: &[u64]) -> bool
 
 // Whether any words are a type that can be used so.
 pub fn can_be(role: Role, a: &[u64]) -> Verdict
-    ensures { ofVerdict result ≡ roles.roleAnswer role a.now }
+    ensures { of_verdict result ≡ roles.role_answer role a.now }
 {
     match check_type(a) {
         Checked::Refused { number, place } => Verdict::Refused { number, place },

@@ -7,11 +7,11 @@ use Rattle.type_size_and_depth.specs.declared.answers.Count.{Count}
 use Rattle.type_size_and_depth.specs.declared.answers.Count.TheVariants as count
 
 -- The bytes, or "No size".
-abbrev pub ofSize : Size → Answer ℕ
-ofSize (size.Bytes n) = given n
-ofSize size.Nothing = nothing
-ofSize (size.Refused n p) = refused n p
+abbrev pub of_size : Size → Answer ℕ
+of_size (size.Bytes n) = given n
+of_size size.Nothing = nothing
+of_size (size.Refused n p) = refused n p
 
-abbrev pub ofCount : Count → Answer ℕ
-ofCount (count.Of n) = given n
-ofCount (count.Refused n p) = refused n p
+abbrev pub of_count : Count → Answer ℕ
+of_count (count.Of n) = given n
+of_count (count.Refused n p) = refused n p

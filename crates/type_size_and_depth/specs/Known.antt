@@ -3,7 +3,7 @@ use Rattle.std.specs.Prelude.{cond, ◌||◌, List, [], ◌∷◌, ℕ, eqb}
 use Rattle.type_numbers.specs.Kind as kind
 use Rattle.type_layers.specs.Layers.{Layer, layers}
 use Rattle.type_layers.specs.Answer.{Answer, given, nothing, next}
-use Rattle.type_checks.specs.Check.{checkOf}
+use Rattle.type_checks.specs.Check.{check_of}
 
 -- "Known size: 1, 2, 4, 8, 16 for the sized integers, 1 for Char8 and Bool, its number for Word"
 unfoldable pub known_of : ℕ → ℕ → Answer ℕ
@@ -16,9 +16,9 @@ known_of k number =
     (cond (eqb k kind.word) (given number)
     nothing)))))
 
-unfoldable pub knownSize : List Layer → Answer ℕ
-knownSize [] = nothing
-knownSize (x ∷ a) = known_of x.kind x.number
+unfoldable pub known_size : List Layer → Answer ℕ
+known_size [] = nothing
+known_size (x ∷ a) = known_of x.kind x.number
 
-unfoldable pub knownSizeAnswer : List ℕ → Answer ℕ
-knownSizeAnswer ws = next (checkOf ws) (knownSize (layers ws))
+unfoldable pub known_size_answer : List ℕ → Answer ℕ
+known_size_answer ws = next (check_of ws) (known_size (layers ws))

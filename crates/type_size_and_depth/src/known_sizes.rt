@@ -1,7 +1,7 @@
 ghost use Rattle.std.specs.Prelude.{◌≡◌};
 ghost use Rattle.type_layers.specs.Layers.{layers};
-ghost use Rattle.type_size_and_depth.specs.AsCoded.{ofSize};
-ghost use Rattle.type_size_and_depth.specs.Known.{known_of, knownSize, knownSizeAnswer};
+ghost use Rattle.type_size_and_depth.specs.AsCoded.{of_size};
+ghost use Rattle.type_size_and_depth.specs.Known.{known_of, known_size, known_size_answer};
 
 use crate::answers::Size;
 use type_first_refusal::check_type;
@@ -10,7 +10,7 @@ use type_numbers::Kind;
 
 // The known size of a type by the kind and the number of its outer layer.
 fn known_of(k: u64, number: u64) -> Size
-    ensures { ofSize result ≡ known_of k number }
+    ensures { of_size result ≡ known_of k number }
 {
     if (k == Kind::INT8) | (k == Kind::UINT8) | (k == Kind::CHAR8) | (k == Kind::BOOL) {
         return Size::Bytes(1);
@@ -35,7 +35,7 @@ fn known_of(k: u64, number: u64) -> Size
 
 // The known size; of no layer none.
 pub fn known_size(a: &[u64]) -> Size
-    ensures { ofSize result ≡ knownSize (layers a.now) }
+    ensures { of_size result ≡ known_size (layers a.now) }
 {
     if a.len() < 3 {
         return Size::Nothing;
@@ -45,7 +45,7 @@ pub fn known_size(a: &[u64]) -> Size
 
 // The known size, for any words.
 pub fn known_size_in_bytes_as_word_member(a: &[u64]) -> Size
-    ensures { ofSize result ≡ knownSizeAnswer a.now }
+    ensures { of_size result ≡ known_size_answer a.now }
 {
     match check_type(a) {
         Checked::Refused { number, place } => Size::Refused { number, place },

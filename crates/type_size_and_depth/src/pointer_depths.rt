@@ -1,7 +1,7 @@
 ghost use Rattle.std.specs.Prelude.{◌≡◌};
 ghost use Rattle.type_layers.specs.Layers.{layers};
-ghost use Rattle.type_size_and_depth.specs.AsCoded.{ofCount};
-ghost use Rattle.type_size_and_depth.specs.Depth.{pointerDepth, pointerDepthAnswer};
+ghost use Rattle.type_size_and_depth.specs.AsCoded.{of_count};
+ghost use Rattle.type_size_and_depth.specs.Depth.{pointer_depth, pointer_depth_answer};
 
 use crate::answers::Count;
 use type_first_refusal::check_type;
@@ -10,7 +10,7 @@ use type_numbers::Kind;
 
 // The pointer depth; of no layer 0.
 pub fn depth(a: &[u64]) -> u64
-    ensures { result ≡ pointerDepth (layers a.now) }
+    ensures { result ≡ pointer_depth (layers a.now) }
 {
     if a.len() < 3 {
         return 0;
@@ -24,7 +24,7 @@ pub fn depth(a: &[u64]) -> u64
 
 // The pointer depth, for any words.
 pub fn pointer_depth(a: &[u64]) -> Count
-    ensures { ofCount result ≡ pointerDepthAnswer a.now }
+    ensures { of_count result ≡ pointer_depth_answer a.now }
 {
     match check_type(a) {
         Checked::Refused { number, place } => Count::Refused { number, place },

@@ -14,14 +14,14 @@ use borrow.Author.Tests.{lt-ltb, le-ltb, eqb-true, ne_eqb}
 use Rattle.type_numbers.specs.Kind as kind
 use Rattle.type_numbers.specs.Refusal as refusal
 use Rattle.type_layers.specs.Layers.{layers}
-use Rattle.type_layers.specs.Answer.{Answer, given, nothing, refused, ofChecked}
+use Rattle.type_layers.specs.Answer.{Answer, given, nothing, refused, of_checked}
 use Rattle.type_layers.specs.declared.answers.Checked.{Checked}
 use Rattle.type_layers.specs.declared.answers.Checked.TheVariants.{Good}
 use Rattle.type_layers.proofs.Given.{not-given}
 use Rattle.type_layers.proofs.Words.{none, more, rest}
-use Rattle.type_size_and_depth.specs.AsCoded.{ofSize}
-use Rattle.type_size_and_depth.specs.Known.{knownSize}
-use Rattle.type_stored_size.specs.StoredSize.{widthAnswer, hasOneWidth, hasTwoWidths, product, times, storedSize}
+use Rattle.type_size_and_depth.specs.AsCoded.{of_size}
+use Rattle.type_size_and_depth.specs.Known.{known_size}
+use Rattle.type_stored_size.specs.StoredSize.{width_answer, has_one_width, has_two_widths, product, times, stored_size}
 use Rattle.type_size_and_depth.specs.declared.answers.Size.{Size}
 use Rattle.type_size_and_depth.specs.declared.answers.Size.TheVariants as size
 
@@ -51,36 +51,36 @@ module _ (n m : ℕ) where
 
 -- an Array, by the size of its element
 module _ (n : ℕ) (element : Size) where
-  pub of-bytes : (m : ℕ) (r : Answer ℕ) → element ≡ size.Bytes m → r ≡ product n m → r ≡ times n (ofSize element)
+  pub of-bytes : (m : ℕ) (r : Answer ℕ) → element ≡ size.Bytes m → r ≡ product n m → r ≡ times n (of_size element)
   of-bytes m r e q = rw e q
 
-  pub of-refused : (k p : ℕ) → element ≡ size.Refused k p → refused k p ≡ times n (ofSize element)
+  pub of-refused : (k p : ℕ) → element ≡ size.Refused k p → refused k p ≡ times n (of_size element)
   of-refused k p e = rw e
 
 -- the outer layer, for pointers of any width
 module _ (w : ℕ) (ws : List ℕ) where
-  pub stored-none : length ws < 3 → nothing ≡ storedSize w (layers ws)
-  unfolding storedSize
+  pub stored-none : length ws < 3 → nothing ≡ stored_size w (layers ws)
+  unfolding stored_size
   stored-none h = rw (none ws)
 
   pub stored-array : (element r : Answer ℕ) → 3 ≤ length ws → get_or ws 0 0 ≡ kind.array →
-      element ≡ storedSize w (layers (rest ws)) → r ≡ times (get_or ws 2 0) element → r ≡ storedSize w (layers ws)
-  unfolding storedSize
+      element ≡ stored_size w (layers (rest ws)) → r ≡ times (get_or ws 2 0) element → r ≡ stored_size w (layers ws)
+  unfolding stored_size
   stored-array element r h e p q = rw (more ws, e, ← p) q
 
   pub stored_other : (r : Answer ℕ) → 3 ≤ length ws → (get_or ws 0 0 ≡ kind.array → ⊥) →
       r
-      ≡ cond (hasOneWidth (get_or ws 0 0)) (given w)
-      (cond (hasTwoWidths (get_or ws 0 0)) (given (2 * w)) (knownSize (layers ws))) →
-      r ≡ storedSize w (layers ws)
-  unfolding storedSize knownSize
+      ≡ cond (has_one_width (get_or ws 0 0)) (given w)
+      (cond (has_two_widths (get_or ws 0 0)) (given (2 * w)) (known_size (layers ws))) →
+      r ≡ stored_size w (layers ws)
+  unfolding stored_size known_size
   stored_other r h e q = rw (more ws, ne_eqb (get_or ws 0 0) kind.array e) (rw (more ws) at q)
 
 -- a width that passed is small enough for two of them
-pub at-most-8 : (w n : ℕ) (x : Checked) → ofChecked x ≡ widthAnswer w → x ≡ Good n → w ≤ 8
-at-most-8 w n x e h = by_tests (eqb w 4) (eqb w 8) refl refl (ap ofChecked (sym h) ∙ e)
+pub at-most-8 : (w n : ℕ) (x : Checked) → of_checked x ≡ width_answer w → x ≡ Good n → w ≤ 8
+at-most-8 w n x e h = by_tests (eqb w 4) (eqb w 8) refl refl (ap of_checked (sym h) ∙ e)
   where
-    by_tests : (s t : Bool) → eqb w 4 ≡ s → eqb w 8 ≡ t → given n ≡ cond (s || t) (given w) (refused refusal.badRequest 0) → w ≤ 8
+    by_tests : (s t : Bool) → eqb w 4 ≡ s → eqb w 8 ≡ t → given n ≡ cond (s || t) (given w) (refused refusal.bad_request 0) → w ≤ 8
     by_tests true t p q g = omega (arith, eqb-true w 4 p)
     by_tests false true p q g = omega (arith, eqb-true w 8 q)
     by_tests false false p q g = absurd (not-given 5 0 n (sym g))

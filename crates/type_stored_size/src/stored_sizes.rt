@@ -1,8 +1,8 @@
 ghost use Rattle.std.specs.Prelude.{◌≡◌, ◌≤◌};
 ghost use Rattle.type_layers.specs.Layers.{layers};
-ghost use Rattle.type_layers.specs.Answer.{ofChecked};
-ghost use Rattle.type_size_and_depth.specs.AsCoded.{ofSize};
-ghost use Rattle.type_stored_size.specs.StoredSize.{widthAnswer, product, times, storedSize, storedSizeAnswer};
+ghost use Rattle.type_layers.specs.Answer.{of_checked};
+ghost use Rattle.type_size_and_depth.specs.AsCoded.{of_size};
+ghost use Rattle.type_stored_size.specs.StoredSize.{width_answer, product, times, stored_size, stored_size_answer};
 
 use type_first_refusal::check_type;
 use type_layers::Checked;
@@ -20,7 +20,7 @@ const MOST: u64 = 18446744073709551615;
 
 // The division tells whether the product fits before it is made.
 fn product(length: u64, size: u64) -> Size
-    ensures { ofSize result ≡ product length size }
+    ensures { of_size result ≡ product length size }
 {
     if size == 0 {
         return Size::Bytes(0);
@@ -36,7 +36,7 @@ fn product(length: u64, size: u64) -> Size
 
 // The size of an Array by its length and the size of its element.
 fn array_size(length: u64, element: Size) -> Size
-    ensures { ofSize result ≡ times length (ofSize element) }
+    ensures { of_size result ≡ times length (of_size element) }
 {
     match element {
         Size::Bytes(size) => product(length, size),
@@ -48,7 +48,7 @@ fn array_size(length: u64, element: Size) -> Size
 // The stored size, with pointers of so many bytes; of no layer none.
 fn stored(a: &[u64], width: u64) -> Size
     requires { width ≤ 8 }
-    ensures { ofSize result ≡ storedSize width (layers a.now) }
+    ensures { of_size result ≡ stored_size width (layers a.now) }
 {
     if a.len() < 3 {
         return Size::Nothing;
@@ -68,7 +68,7 @@ fn stored(a: &[u64], width: u64) -> Size
 
 // The width, or the refusal of another.
 fn check_width(width: u64) -> Checked
-    ensures { ofChecked result ≡ widthAnswer width }
+    ensures { of_checked result ≡ width_answer width }
 {
     if (width == SMALL) | (width == LARGE) {
         return Checked::Good(width);
@@ -81,7 +81,7 @@ fn check_width(width: u64) -> Checked
 
 // The stored size with pointers of so many bytes, for any words and any width.
 pub fn stored_size(a: &[u64], width: u64) -> Size
-    ensures { ofSize result ≡ storedSizeAnswer width a.now }
+    ensures { of_size result ≡ stored_size_answer width a.now }
 {
     match check_type(a) {
         Checked::Refused { number, place } => Size::Refused { number, place },

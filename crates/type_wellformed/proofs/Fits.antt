@@ -8,10 +8,10 @@ use lib.Dec.{eqb}
 use lib.ListN.{length, get_or}
 use borrow.Author.Tests.{eqb-true, ne_eqb, not-true, not-false}
 use Rattle.type_numbers.specs.Kind as kind
-use Rattle.type_layers.specs.Layers.{layers, outer, inside, isArray, is_slice, isReference, holdsInner}
+use Rattle.type_layers.specs.Layers.{layers, outer, inside, is_array, is_slice, is_reference, holds_inner}
 use Rattle.type_layers.proofs.Words.{none, more, rest, outer-more}
 use Rattle.type_layers.proofs.Decide.{neither}
-use Rattle.type_wellformed.specs.WellFormed.{inner, element, wellFormed}
+use Rattle.type_wellformed.specs.WellFormed.{inner, element, well_formed}
 
 -- what holds of each kind that a test lists holds of the kind that passed the test
 module _ (P : ℕ → Type 0) (k : ℕ) where
@@ -22,62 +22,62 @@ module _ (P : ℕ → Type 0) (k : ℕ) where
   or true n e p f = f refl
   or false n e p f = one n e p
 
-  arrays : isArray k ≡ true → P 14 → P 15 → P 18 → P 19 → P k
+  arrays : is_array k ≡ true → P 14 → P 15 → P 18 → P 19 → P k
   arrays t a b c d = or _ 19 t d (λ t. or _ 18 t c (λ t. or _ 15 t b (λ t. one 14 t a)))
 
   slices : is_slice k ≡ true → P 16 → P 17 → P k
   slices t a b = or _ 17 t b (λ t. one 16 t a)
 
-  pub references : isReference k ≡ true → P 23 → P 24 → P k
+  pub references : is_reference k ≡ true → P 23 → P 24 → P k
   references t a b = or _ 24 t b (λ t. one 23 t a)
 
 -- whether a type is an Inner, an Element, a Type: by its outer kind, where what is inside is an Element (e), an Inner (i)
-abbrev asInner : ℕ → Bool → Bool → Bool
-asInner k e i = (not (holdsInner k) && not (eqb k kind.void)) || (isArray k && e) || (eqb k kind.pointer && i)
+abbrev as_inner : ℕ → Bool → Bool → Bool
+as_inner k e i = (not (holds_inner k) && not (eqb k kind.void)) || (is_array k && e) || (eqb k kind.pointer && i)
 
-abbrev asElement : ℕ → Bool → Bool → Bool
-asElement k e i = asInner k e i && not (eqb k kind.endlessArray)
+abbrev as_element : ℕ → Bool → Bool → Bool
+as_element k e i = as_inner k e i && not (eqb k kind.endless_array)
 
-abbrev asType : ℕ → Bool → Bool → Bool
-asType k e i = asInner k e i || eqb k kind.void || (is_slice k && e) || (eqb k kind.view && i)
+abbrev as_type : ℕ → Bool → Bool → Bool
+as_type k e i = as_inner k e i || eqb k kind.void || (is_slice k && e) || (eqb k kind.view && i)
 
 -- the kinds that `is_wellformed_inner` and `can_be_element` refuse
-abbrev pub noInner : ℕ → Bool
-noInner k = eqb k kind.void || eqb k kind.slice || eqb k kind.slicePointer || eqb k kind.view
+abbrev pub no_inner : ℕ → Bool
+no_inner k = eqb k kind.void || eqb k kind.slice || eqb k kind.slice_pointer || eqb k kind.view
 
-abbrev pub noElement : ℕ → Bool
-noElement k = noInner k || eqb k kind.endlessArray
+abbrev pub no_element : ℕ → Bool
+no_element k = no_inner k || eqb k kind.endless_array
 
 either : (a b : Bool) {A : Type 0} → (a || b) ≡ true → (a ≡ true → A) → (b ≡ true → A) → A
 either true b t f g = f refl
 either false b t f g = g t
 
 module _ (k : ℕ) (e i : Bool) where
-  array-inner : isArray k ≡ true → asInner k e i ≡ e
-  array-inner t = arrays (λ (k : ℕ). asInner k e i ≡ e) k t (or-false e) (or-false e) (or-false e) (or-false e)
+  array-inner : is_array k ≡ true → as_inner k e i ≡ e
+  array-inner t = arrays (λ (k : ℕ). as_inner k e i ≡ e) k t (or-false e) (or-false e) (or-false e) (or-false e)
 
-  pointer-inner : k ≡ kind.pointer → asInner k e i ≡ i
+  pointer-inner : k ≡ kind.pointer → as_inner k e i ≡ i
   pointer-inner t = rw t
 
-  no_inner : noInner k ≡ true → asInner k e i ≡ false
-  no_inner t =
-      let P : ℕ → Type 0 = λ (k : ℕ). asInner k e i ≡ false in
+  no_inner_lem : no_inner k ≡ true → as_inner k e i ≡ false
+  no_inner_lem t =
+      let P : ℕ → Type 0 = λ (k : ℕ). as_inner k e i ≡ false in
       or P k _ 24 t refl (λ t. or P k _ 17 t refl (λ t. or P k _ 16 t refl (λ t. one P k 0 t refl)))
 
-  no-element : noElement k ≡ true → asElement k e i ≡ false
+  no-element : no_element k ≡ true → as_element k e i ≡ false
   no-element t =
-      or (λ (k : ℕ). asElement k e i ≡ false) k _ 18 t (and-false (asInner 18 e i))
-      (λ t. ap (λ (b : Bool). b && not (eqb k kind.endlessArray)) (no_inner t))
+      or (λ (k : ℕ). as_element k e i ≡ false) k _ 18 t (and-false (as_inner 18 e i))
+      (λ t. ap (λ (b : Bool). b && not (eqb k kind.endless_array)) (no_inner_lem t))
 
-  array-type : (isArray k || is_slice k) ≡ true → asType k e i ≡ e
+  array-type : (is_array k || is_slice k) ≡ true → as_type k e i ≡ e
   array-type t =
-      let P : ℕ → Type 0 = λ (k : ℕ). asType k e i ≡ e in
-      either (isArray k) (is_slice k) t
+      let P : ℕ → Type 0 = λ (k : ℕ). as_type k e i ≡ e in
+      either (is_array k) (is_slice k) t
       (λ t. arrays P k t (simp or-false) (simp or-false) (simp or-false) (simp or-false))
       (λ t. slices P k t (or-false e) (or-false e))
 
-  reference-type : isReference k ≡ true → asType k e i ≡ i
-  reference-type t = references (λ (k : ℕ). asType k e i ≡ i) k t (simp or-false) refl
+  reference-type : is_reference k ≡ true → as_type k e i ≡ i
+  reference-type t = references (λ (k : ℕ). as_type k e i ≡ i) k t (simp or-false) refl
 
 -- the leaves, by tests that failed
 leaf_type : (a s p w v e i : Bool) → (a || s) ≡ false → (p || w) ≡ false →
@@ -101,8 +101,8 @@ leaf-inner false false false false true false e i x y z = absurd (true≢false z
 
 -- the laws over the words, by what the code tested
 module _ (a : List ℕ) where
-  pub formed-none : length a < 3 → false ≡ wellFormed (layers a)
-  unfolding wellFormed inner outer
+  pub formed-none : length a < 3 → false ≡ well_formed (layers a)
+  unfolding well_formed inner outer
   formed-none h = rw (none a)
 
   pub element-none : length a < 3 → false ≡ element (layers a)
@@ -114,56 +114,56 @@ module _ (a : List ℕ) where
   inner-none h = rw (none a)
 
   module _ (h : 3 ≤ length a) where
-    inner-is : inner (layers a) ≡ asInner (get_or a 0 0) (element (layers (rest a))) (inner (layers (rest a)))
+    inner-is : inner (layers a) ≡ as_inner (get_or a 0 0) (element (layers (rest a))) (inner (layers (rest a)))
     unfolding inner element
     inner-is = rw (more a)
 
-    element-is : element (layers a) ≡ asElement (get_or a 0 0) (element (layers (rest a))) (inner (layers (rest a)))
+    element-is : element (layers a) ≡ as_element (get_or a 0 0) (element (layers (rest a))) (inner (layers (rest a)))
     unfolding inner element outer
     element-is = rw (more a)
 
-    type-is : wellFormed (layers a) ≡ asType (get_or a 0 0) (element (layers (rest a))) (inner (layers (rest a)))
-    unfolding wellFormed inner element outer inside
+    type-is : well_formed (layers a) ≡ as_type (get_or a 0 0) (element (layers (rest a))) (inner (layers (rest a)))
+    unfolding well_formed inner element outer inside
     type-is = rw (more a)
 
     module _ (f r : Bool) where
-      pub type-array : (g : Bool) → f ≡ isArray (get_or a 0 0) → g ≡ is_slice (get_or a 0 0) → (f || g) ≡ true →
-          r ≡ element (layers (rest a)) → r ≡ wellFormed (layers a)
+      pub type-array : (g : Bool) → f ≡ is_array (get_or a 0 0) → g ≡ is_slice (get_or a 0 0) → (f || g) ≡ true →
+          r ≡ element (layers (rest a)) → r ≡ well_formed (layers a)
       type-array g p q t e = rw type-is (e ∙ sym (array-type (get_or a 0 0) _ _ (rw (p, q) at t)))
 
-      pub type-reference : f ≡ isReference (get_or a 0 0) → f ≡ true → r ≡ inner (layers (rest a)) → r ≡ wellFormed (layers a)
+      pub type-reference : f ≡ is_reference (get_or a 0 0) → f ≡ true → r ≡ inner (layers (rest a)) → r ≡ well_formed (layers a)
       type-reference p t e = rw type-is (e ∙ sym (reference-type (get_or a 0 0) _ _ (sym p ∙ t)))
 
-      pub element-held : f ≡ not (noElement (get_or a 0 0)) → f ≡ true → r ≡ inner (layers a) → r ≡ element (layers a)
+      pub element-held : f ≡ not (no_element (get_or a 0 0)) → f ≡ true → r ≡ inner (layers a) → r ≡ element (layers a)
       unfolding element
       element-held p t e =
           let k = get_or a 0 0 in
-          let n = (neither (noInner k) (eqb k 18) (not-true _ (sym p ∙ t))).1 in
+          let n = (neither (no_inner k) (eqb k 18) (not-true _ (sym p ∙ t))).1 in
           rw (← outer-more a h, n, and-true) e
 
-      pub inner-array : f ≡ isArray (get_or a 0 0) → f ≡ true → r ≡ element (layers (rest a)) → r ≡ inner (layers a)
+      pub inner-array : f ≡ is_array (get_or a 0 0) → f ≡ true → r ≡ element (layers (rest a)) → r ≡ inner (layers a)
       inner-array p t e = rw inner-is (e ∙ sym (array-inner (get_or a 0 0) _ _ (sym p ∙ t)))
 
-      pub inner-leaf : f ≡ isArray (get_or a 0 0) → f ≡ false → (get_or a 0 0 ≡ kind.pointer → ⊥) → noInner (get_or a 0 0) ≡ false →
-          r ≡ wellFormed (layers a) → r ≡ inner (layers a)
-      unfolding wellFormed
+      pub inner-leaf : f ≡ is_array (get_or a 0 0) → f ≡ false → (get_or a 0 0 ≡ kind.pointer → ⊥) → no_inner (get_or a 0 0) ≡ false →
+          r ≡ well_formed (layers a) → r ≡ inner (layers a)
+      unfolding well_formed
       inner-leaf p t n z e =
           let k = get_or a 0 0 in
           let leaf : inner (layers a) ≡ true =
           inner-is
-          ∙ leaf-inner (isArray k) (eqb k 16) (eqb k 17) (eqb k 23) (eqb k 24) (eqb k 0) (element (layers (rest a))) (inner (layers (rest a)))
+          ∙ leaf-inner (is_array k) (eqb k 16) (eqb k 17) (eqb k 23) (eqb k 24) (eqb k 0) (element (layers (rest a))) (inner (layers (rest a)))
           (sym p ∙ t) (ne_eqb k 23 n) z in
           rw leaf (rw leaf at e)
 
-    pub type-leaf : (f g j : Bool) → f ≡ isArray (get_or a 0 0) → g ≡ is_slice (get_or a 0 0) → (f || g) ≡ false →
-        j ≡ isReference (get_or a 0 0) → j ≡ false → true ≡ wellFormed (layers a)
-    type-leaf f g j p q t u v = rw type-is (sym (leaf_type (isArray (get_or a 0 0)) (is_slice (get_or a 0 0)) (eqb (get_or a 0 0) 23) (eqb (get_or a 0 0) 24) (eqb (get_or a 0 0) 0) (element (layers (rest a))) (inner (layers (rest a))) (rw (p, q) at t) (sym u ∙ v)))
+    pub type-leaf : (f g j : Bool) → f ≡ is_array (get_or a 0 0) → g ≡ is_slice (get_or a 0 0) → (f || g) ≡ false →
+        j ≡ is_reference (get_or a 0 0) → j ≡ false → true ≡ well_formed (layers a)
+    type-leaf f g j p q t u v = rw type-is (sym (leaf_type (is_array (get_or a 0 0)) (is_slice (get_or a 0 0)) (eqb (get_or a 0 0) 23) (eqb (get_or a 0 0) 24) (eqb (get_or a 0 0) 0) (element (layers (rest a))) (inner (layers (rest a))) (rw (p, q) at t) (sym u ∙ v)))
 
-    pub element-not : (f : Bool) → f ≡ not (noElement (get_or a 0 0)) → f ≡ false → false ≡ element (layers a)
+    pub element-not : (f : Bool) → f ≡ not (no_element (get_or a 0 0)) → f ≡ false → false ≡ element (layers a)
     element-not f p t = rw element-is (sym (no-element (get_or a 0 0) _ _ (not-false _ (sym p ∙ t))))
 
     pub inner-pointer : (r : Bool) → get_or a 0 0 ≡ kind.pointer → r ≡ inner (layers (rest a)) → r ≡ inner (layers a)
     inner-pointer r t e = rw inner-is (e ∙ sym (pointer-inner (get_or a 0 0) _ _ t))
 
-    pub inner-not : noInner (get_or a 0 0) ≡ true → false ≡ inner (layers a)
-    inner-not t = rw inner-is (sym (no_inner (get_or a 0 0) _ _ t))
+    pub inner-not : no_inner (get_or a 0 0) ≡ true → false ≡ inner (layers a)
+    inner-not t = rw inner-is (sym (no_inner_lem (get_or a 0 0) _ _ t))

@@ -1,7 +1,7 @@
 ghost use Rattle.std.specs.Prelude.{◌≡◌, not, ◌||◌, eqb};
 ghost use Rattle.type_numbers.specs.Kind as kind;
 ghost use Rattle.type_layers.specs.Layers.{layers};
-ghost use Rattle.type_layers.specs.Answer.{ofVerdict};
+ghost use Rattle.type_layers.specs.Answer.{of_verdict};
 ghost use Rattle.type_wellformed.specs.WellFormed as formed;
 
 use type_first_refusal::check_type;
@@ -11,7 +11,7 @@ use type_numbers::Kind;
 // Whether an array may hold a type with this outer kind.
 fn can_be_element(k: u64) -> bool
     ensures { result
-        ≡ not (eqb k kind.void || eqb k kind.slice || eqb k kind.slicePointer || eqb k kind.view || eqb k kind.endlessArray) }
+        ≡ not (eqb k kind.void || eqb k kind.slice || eqb k kind.slice_pointer || eqb k kind.view || eqb k kind.endless_array) }
 {
     !((k == Kind::VOID)
         | (k == Kind::SLICE)
@@ -23,7 +23,7 @@ fn can_be_element(k: u64) -> bool
 // Whether a type is well formed.
 #[cycle(is_wellformed_is_wellformed_element_is_wellformed_inner)]
 pub fn is_wellformed(a: &[u64]) -> bool
-    ensures { result ≡ formed.wellFormed (layers a.now) }
+    ensures { result ≡ formed.well_formed (layers a.now) }
 {
     if a.len() < 3 {
         return false;
@@ -74,7 +74,7 @@ fn is_wellformed_inner(a: &[u64]) -> bool
 
 // Whether any words are a well-formed type.
 pub fn wellformed(a: &[u64]) -> Verdict
-    ensures { ofVerdict result ≡ formed.wellFormedAnswer a.now }
+    ensures { of_verdict result ≡ formed.well_formed_answer a.now }
 {
     match check_type(a) {
         Checked::Refused { number, place } => Verdict::Refused { number, place },

@@ -11,7 +11,7 @@ use Rattle.type_layers.specs.Layers.{Layer, layer, layers, spelled}
 use Rattle.type_layers.specs.Answer as paper
 use Rattle.type_layers.specs.Answer.{given}
 use Rattle.type_layers.proofs.Words.{inner-layers}
-use Rattle.write_type.specs.Outcome.{answer_in, bufferIn}
+use Rattle.write_type.specs.Outcome.{answer_in, buffer_in}
 use Rattle.write_answer.specs.Flat.{flat}
 use Rattle.write_answer.specs.declared.answer.Answer.{Answer}
 use Rattle.walker_step.specs.AsCoded.{seen}
@@ -19,7 +19,7 @@ use Rattle.walker_arrival.specs.Arrived.{addressed}
 
 -- what the walker tells, and what it leaves
 abbrev pub Tells : paper.Answer (List Layer) → List ℕ → Answer → List ℕ → Type 0
-Tells a out r out' = (r ≡ flat (answer_in out a)) × (out' ≡ bufferIn out a)
+Tells a out r out' = (r ≡ flat (answer_in out a)) × (out' ≡ buffer_in out a)
 
 -- a Pointer and an Arraylike
 abbrev both : List ℕ
@@ -58,6 +58,6 @@ module _ (address b : Bool) (front : List ℕ) (i j : ℕ) (w : front ≡ both) 
   -- it is told, and written, as the walker's answer is
   pub told : (ws rest out out' : List ℕ) (r : Answer) (k : paper.Answer ℕ) → rest ≡ cond b (drop 3 ws) ws →
       (k ≡ answer_in out (given (layers (take (j - i) (drop i front)) ++ layers rest)))
-      × (out' ≡ bufferIn out (given (layers (take (j - i) (drop i front)) ++ layers rest))) →
+      × (out' ≡ buffer_in out (given (layers (take (j - i) (drop i front)) ++ layers rest))) →
       r ≡ flat k → Tells (given (addressed address (seen ws b))) out r out'
   told ws rest out out' r k e t u = let v = rw (reached ws rest e) at t in (u ∙ ap flat v.0, v.1)

@@ -1,7 +1,7 @@
 -- "The walker". It knows what one step does, and nothing of rounds, targets or settling.
 use Rattle.std.specs.Prelude.{Bool, cond, ◌&&◌, ◌||◌, List, [], ◌∷◌, ℕ, eqb}
 use Rattle.type_numbers.specs.Kind as kind
-use Rattle.type_layers.specs.Layers.{Layer, layer, outer, inside, isArray, isReference}
+use Rattle.type_layers.specs.Layers.{Layer, layer, outer, inside, is_array, is_reference}
 use Rattle.symbol_members.specs.Member.{Stored, typed, absent}
 use Rattle.type_numbers.specs.StepKind as of-step
 use Rattle.type_numbers.specs.Mark as of-mark
@@ -23,23 +23,23 @@ autoview t = cond (eqb (outer t) kind.view) (at (inside t)) stuck
 -- "Autodeslice turns a Slice (mark 0) or SlicePointer (mark 1) into Arraylike"
 abbrev pub autodeslice : ℕ → List Layer → Where
 autodeslice m t =
-    cond (eqb (outer t) kind.slice && eqb m of-mark.byView || eqb (outer t) kind.slicePointer && eqb m of-mark.byPointer)
+    cond (eqb (outer t) kind.slice && eqb m of-mark.by_view || eqb (outer t) kind.slice_pointer && eqb m of-mark.by_pointer)
     (at (layer kind.arraylike 0 0 ∷ inside t)) stuck
 
 -- "Element goes from 14, 15, 18, 19, or a Pointer to or View of 19, to the element"
 abbrev pub element : List Layer → Where
 element t =
-    cond (isArray (outer t)) (at (inside t))
-    (cond (isReference (outer t) && eqb (outer (inside t)) kind.arraylike) (at (inside (inside t)))
+    cond (is_array (outer t)) (at (inside t))
+    (cond (is_reference (outer t) && eqb (outer (inside t)) kind.arraylike) (at (inside (inside t)))
     stuck)
 
 -- "Member from Struct or Word to the table's type"
-abbrev pub toStored : Stored → Where
-toStored (typed t) = at t
-toStored absent = stuck
+abbrev pub to_stored : Stored → Where
+to_stored (typed t) = at t
+to_stored absent = stuck
 
 abbrev pub member : Stored → List Layer → Where
-member m t = cond (eqb (outer t) kind.struct || eqb (outer t) kind.word) (toStored m) stuck
+member m t = cond (eqb (outer t) kind.struct || eqb (outer t) kind.word) (to_stored m) stuck
 
 module _ (stored : ℕ → Stored) where
   -- "Elsewhere it sticks."

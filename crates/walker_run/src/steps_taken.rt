@@ -1,6 +1,6 @@
 ghost use Rattle.std.specs.Prelude.{◌≡◌, true, ◌%◌, length};
-ghost use Rattle.symbol_columns.specs.AsCoded.{readFrom};
-ghost use Rattle.symbol_order.specs.Order.{inOrder};
+ghost use Rattle.symbol_columns.specs.AsCoded.{read_from};
+ghost use Rattle.symbol_order.specs.Order.{in_order};
 ghost use Rattle.type_layers.specs.AsCoded.{Whole};
 ghost use Rattle.walker_run.specs.Walked as rules;
 ghost use Rattle.walker_arrival.specs.Arrived.{HandsOut};
@@ -26,9 +26,9 @@ fn take_steps<'a>(
     store: &'a [u64],
     out: &mut [u64],
 ) -> Answer
-    requires { Whole known.now × ((length steps.now % 4 ≡ 0) × (inOrder (readFrom columns.now 0 n) store.now ≡ true)) }
+    requires { Whole known.now × ((length steps.now % 4 ≡ 0) × (in_order (read_from columns.now 0 n) store.now ≡ true)) }
     ensures { HandsOut
-        (rules.walkFrom known.now steps.now address (readFrom columns.now 0 n) store.now)
+        (rules.walk_from known.now steps.now address (read_from columns.now 0 n) store.now)
         result out.old out.new }
 {
     let mut cur = known;
@@ -62,7 +62,7 @@ fn walk_ordered<'a>(
 ) -> Answer
     requires { Whole known.now × (length steps.now % 4 ≡ 0) }
     ensures { HandsOut
-        (rules.walkOrdered known.now steps.now address (readFrom columns.now 0 n) store.now)
+        (rules.walk_ordered known.now steps.now address (read_from columns.now 0 n) store.now)
         result out.old out.new }
 {
     if in_order(columns, n, store) {
@@ -82,7 +82,7 @@ pub fn walk_among<'a>(
     out: &mut [u64],
 ) -> Answer
     ensures { HandsOut
-        (rules.walkTo known.now steps.now address (readFrom columns.now 0 n) store.now)
+        (rules.walk_to known.now steps.now address (read_from columns.now 0 n) store.now)
         result out.old out.new }
 {
     match check_type(known) {

@@ -16,7 +16,7 @@ pub fn walk<'a>(
     out: &mut [u64],
 ) -> Answer
     ensures { HandsOut
-        (rules.walkTo known.now steps.now address table.now store.now)
+        (rules.walk_to known.now steps.now address table.now store.now)
         result out.old out.new }
 {
     let mut columns = [0u64; Column::WORDS];

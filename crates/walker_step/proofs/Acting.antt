@@ -8,43 +8,43 @@ use lib.Dec.{eqb, leb}
 use lib.ListN.{length, drop}
 use borrow.Author.Tests.{eq-eqb, ne_eqb, eqb-true, leb-true, leb-false}
 use Rattle.type_numbers.specs.Kind as kind
-use Rattle.type_layers.specs.Layers.{Layer, layers, outer, inside, innerWords, isArray, isReference}
+use Rattle.type_layers.specs.Layers.{Layer, layers, outer, inside, inner_words, is_array, is_reference}
 use Rattle.type_layers.specs.AsCoded.{Whole}
 use Rattle.type_layers.proofs.Words.{inner-layers, inner-whole, none, more}
 use Rattle.type_layers.proofs.Decide.{yes, no}
 use Rattle.type_numbers.specs.Mark as of-mark
 use Rattle.plan_steps.specs.Steps.{Step}
 use Rattle.symbol_members.specs.Member.{Stored}
-use Rattle.walker_rule.specs.Walker.{Where, at, stuck, toStored, element, member, act}
-use Rattle.symbol_members.specs.Members.{ofLayers}
-use Rattle.walker_step.specs.AsCoded.{onElement, onMember, onAutodeslice, takesOff, move_of, seen, onward, desliced, sticks, moved, Current}
+use Rattle.walker_rule.specs.Walker.{Where, at, stuck, to_stored, element, member, act}
+use Rattle.symbol_members.specs.Members.{of_layers}
+use Rattle.walker_step.specs.AsCoded.{on_element, on_member, on_autodeslice, takes_off, move_of, seen, onward, desliced, sticks, moved, Current}
 use Rattle.walker_step.specs.declared.step_move.Move.{Move}
 use Rattle.walker_step.specs.declared.step_move.Move.TheVariants.{Stuck, Inside, TwoInside, Deslice, Member}
 
 -- the decision, by what was tested
 module _ (s mark k l : ℕ) (there : Bool) where
-  pub by-element : (r : Move) → s ≡ 0 → r ≡ onElement k l → r ≡ move_of s mark k l there
+  pub by-element : (r : Move) → s ≡ 0 → r ≡ on_element k l → r ≡ move_of s mark k l there
   unfolding move_of
   by-element r e q = yes _ r _ _ (eq-eqb s 0 e) q
 
   module _ (e₀ : s ≡ 0 → ⊥) where
-    pub by-member : (r : Move) → s ≡ 1 → r ≡ onMember k there → r ≡ move_of s mark k l there
+    pub by-member : (r : Move) → s ≡ 1 → r ≡ on_member k there → r ≡ move_of s mark k l there
     unfolding move_of
     by-member r e q = no _ r _ _ (ne_eqb s 0 e₀) (yes _ r _ _ (eq-eqb s 1 e) q)
 
     module _ (e₁ : s ≡ 1 → ⊥) where
-      pub by-autodeslice : (r : Move) → s ≡ 2 → r ≡ onAutodeslice k mark → r ≡ move_of s mark k l there
+      pub by-autodeslice : (r : Move) → s ≡ 2 → r ≡ on_autodeslice k mark → r ≡ move_of s mark k l there
       unfolding move_of
       by-autodeslice r e q = no _ r _ _ (ne_eqb s 0 e₀) (no _ r _ _ (ne_eqb s 1 e₁) (yes _ r _ _ (eq-eqb s 2 e) q))
 
       module _ (e₂ : s ≡ 2 → ⊥) where
-        pub by-autoderef : (r : Move) → s ≡ 3 → r ≡ takesOff k kind.pointer → r ≡ move_of s mark k l there
+        pub by-autoderef : (r : Move) → s ≡ 3 → r ≡ takes_off k kind.pointer → r ≡ move_of s mark k l there
         unfolding move_of
         by-autoderef r e q =
             no _ r _ _ (ne_eqb s 0 e₀) (no _ r _ _ (ne_eqb s 1 e₁) (no _ r _ _ (ne_eqb s 2 e₂) (yes _ r _ _ (eq-eqb s 3 e) q)))
 
         module _ (e₃ : s ≡ 3 → ⊥) where
-          pub by-autoview : (r : Move) → s ≡ 4 → r ≡ takesOff k kind.view → r ≡ move_of s mark k l there
+          pub by-autoview : (r : Move) → s ≡ 4 → r ≡ takes_off k kind.view → r ≡ move_of s mark k l there
           unfolding move_of
           by-autoview r e q =
               no _ r _ _ (ne_eqb s 0 e₀)
@@ -65,7 +65,7 @@ module _ (m n : Move) (e : m ≡ n) where
   pub turns : (b : Bool) → b ≡ desliced n → b ≡ desliced m
   turns b q = rw e q
 
-pub leads-in : (m : Move) (r l ws stored : List ℕ) → m ≡ TwoInside → l ≡ innerWords ws → r ≡ innerWords l → r ≡ onward m ws stored
+pub leads-in : (m : Move) (r l ws stored : List ℕ) → m ≡ TwoInside → l ≡ inner_words ws → r ≡ inner_words l → r ≡ onward m ws stored
 unfolding onward
 leads-in m r l ws stored e p q = rw (e, ← p) q
 
@@ -113,26 +113,26 @@ module _ (ws m : List ℕ) (b : Bool) where
   unfolding moved sticks onward desliced seen
   on-deslice = ap (λ (u : List Layer). at (record { kind = kind.arraylike; name = 0; number = 0 } ∷ u)) (seen-inside ws b ∙ inner-layers ws)
 
-  on-element : element t ≡ moved (onElement (outer t) l) ws m
+  on-element : element t ≡ moved (on_element (outer t) l) ws m
   on-element =
-      by-test (isArray (outer t)) _ _ _ _ (λ e. on-inside)
-      (ap (λ (u : List Layer). cond (isReference (outer t) && eqb (outer u) kind.arraylike) (at (inside (inside t))) stuck) (seen-inside ws b)
-      ∙ by-test (isReference (outer t) && eqb l kind.arraylike) _ _ _ _ (λ e. on-two-inside) on-stuck)
+      by-test (is_array (outer t)) _ _ _ _ (λ e. on-inside)
+      (ap (λ (u : List Layer). cond (is_reference (outer t) && eqb (outer u) kind.arraylike) (at (inside (inside t))) stuck) (seen-inside ws b)
+      ∙ by-test (is_reference (outer t) && eqb l kind.arraylike) _ _ _ _ (λ e. on-two-inside) on-stuck)
 
-  on-member : member (ofLayers (layers m)) t ≡ moved (onMember (outer t) (leb 3 (length m))) ws m
+  on-member : member (of_layers (layers m)) t ≡ moved (on_member (outer t) (leb 3 (length m))) ws m
   unfolding moved sticks onward desliced seen
   on-member = by-words (leb 3 (length m)) refl
     where
       k : Bool
       k = eqb (outer t) kind.struct || eqb (outer t) kind.word
 
-      here : 3 ≤ length m → toStored (ofLayers (layers m)) ≡ at (layers m)
+      here : 3 ≤ length m → to_stored (of_layers (layers m)) ≡ at (layers m)
       here h = rw (more m h)
 
       on_typed : at (layers m) ≡ moved Member ws m
       on_typed = refl
 
-      by-words : (f : Bool) → leb 3 (length m) ≡ f → cond k (toStored (ofLayers (layers m))) stuck ≡ moved (cond (k && f) Member Stuck) ws m
+      by-words : (f : Bool) → leb 3 (length m) ≡ f → cond k (to_stored (of_layers (layers m))) stuck ≡ moved (cond (k && f) Member Stuck) ws m
       by-words true e = rw (and-true k) (by-test k _ _ _ _ (λ _. here (leb-true 3 (length m) e) ∙ on_typed) on-stuck)
       by-words false e = rw (and-false k, none m (leb-false 3 (length m) e)) (absent k ∙ on-stuck)
         where
@@ -140,19 +140,19 @@ module _ (ws m : List ℕ) (b : Bool) where
           absent true = refl
           absent false = refl
 
-  pub acts : (stored : ℕ → Stored) (s : Step) → (s.kind ≡ 1 → stored s.handle ≡ ofLayers (layers m)) →
+  pub acts : (stored : ℕ → Stored) (s : Step) → (s.kind ≡ 1 → stored s.handle ≡ of_layers (layers m)) →
       act stored s t ≡ moved (move_of s.kind s.mark (outer t) l (leb 3 (length m))) ws m
   unfolding act move_of
   acts stored s is =
       by-test (eqb s.kind 0) _ _ _ _ (λ e. on-element)
       (by-test (eqb s.kind 1) _ _ _ _ (λ e. ap (λ (x : Stored). member x t) (is (eqb-true s.kind 1 e)) ∙ on-member)
-      (by-test (eqb s.kind 2) _ _ _ _ (λ e. by-test (eqb (outer t) kind.slice && eqb s.mark of-mark.byView || eqb (outer t) kind.slicePointer && eqb s.mark of-mark.byPointer) _ _ _ _ (λ _. on-deslice) on-stuck)
+      (by-test (eqb s.kind 2) _ _ _ _ (λ e. by-test (eqb (outer t) kind.slice && eqb s.mark of-mark.by_view || eqb (outer t) kind.slice_pointer && eqb s.mark of-mark.by_pointer) _ _ _ _ (λ _. on-deslice) on-stuck)
       (by-test (eqb s.kind 3) _ _ _ _ (λ e. by-test (eqb (outer t) kind.pointer) _ _ _ _ (λ _. on-inside) on-stuck)
       (by-test (eqb s.kind 4) _ _ _ _ (λ e. by-test (eqb (outer t) kind.view) _ _ _ _ (λ _. on-inside) on-stuck) on-stuck))))
 
 -- only a slice is desliced
 abbrev slices : ℕ → ℕ → Bool
-slices k mark = eqb k kind.slice && eqb mark of-mark.byView || eqb k kind.slicePointer && eqb mark of-mark.byPointer
+slices k mark = eqb k kind.slice && eqb mark of-mark.by_view || eqb k kind.slice_pointer && eqb mark of-mark.by_pointer
 
 by-outcome : {Q : Type 0} (f : Bool) (x y : Move) → (f ≡ true → x ≡ Deslice → Q) → (y ≡ Deslice → Q) → cond f x y ≡ Deslice → Q
 by-outcome true x y g h e = g refl e
@@ -161,7 +161,7 @@ by-outcome false x y g h e = h e
 deslices : (s mark k l : ℕ) (there : Bool) → move_of s mark k l there ≡ Deslice → slices k mark ≡ true
 unfolding move_of
 deslices s mark k l there =
-    by-outcome (eqb s 0) _ _ (λ _. by-outcome (isArray k) _ _ (λ _ e. cc) (by-outcome (isReference k && eqb l kind.arraylike) _ _ (λ _ e. cc) (λ e. cc)))
+    by-outcome (eqb s 0) _ _ (λ _. by-outcome (is_array k) _ _ (λ _ e. cc) (by-outcome (is_reference k && eqb l kind.arraylike) _ _ (λ _ e. cc) (λ e. cc)))
     (by-outcome (eqb s 1) _ _ (λ _. by-outcome ((eqb k kind.struct || eqb k kind.word) && there) _ _ (λ _ e. cc) (λ e. cc))
     (by-outcome (eqb s 2) _ _ (λ _. by-outcome (slices k mark) _ _ (λ f e. f) (λ e. cc))
     (by-outcome (eqb s 3) _ _ (λ _. by-outcome (eqb k kind.pointer) _ _ (λ _ e. cc) (λ e. cc))

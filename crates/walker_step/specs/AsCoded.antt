@@ -1,7 +1,7 @@
 -- No rule, but what contracts of the code need: one step of the walker on numbers and words.
 use Rattle.std.specs.Prelude.{◌≡◌, Bool, true, false, cond, ◌&&◌, ◌||◌, List, ◌∷◌, ℕ, ◌≤◌, eqb, length}
 use Rattle.type_numbers.specs.Kind as kind
-use Rattle.type_layers.specs.Layers.{Layer, layer, layers, inside, innerWords, isArray, isReference}
+use Rattle.type_layers.specs.Layers.{Layer, layer, layers, inside, inner_words, is_array, is_reference}
 use Rattle.type_layers.specs.AsCoded.{Whole}
 use Rattle.type_numbers.specs.StepKind as of-step
 use Rattle.type_numbers.specs.Mark as of-mark
@@ -10,26 +10,26 @@ use Rattle.walker_step.specs.declared.step_move.Move.{Move}
 use Rattle.walker_step.specs.declared.step_move.Move.TheVariants.{Stuck, Inside, TwoInside, Deslice, Member}
 
 -- k is the outer kind, l the kind inside.
-abbrev pub onElement : ℕ → ℕ → Move
-onElement k l = cond (isArray k) Inside (cond (isReference k && eqb l kind.arraylike) TwoInside Stuck)
+abbrev pub on_element : ℕ → ℕ → Move
+on_element k l = cond (is_array k) Inside (cond (is_reference k && eqb l kind.arraylike) TwoInside Stuck)
 
-abbrev pub onMember : ℕ → Bool → Move
-onMember k there = cond ((eqb k kind.struct || eqb k kind.word) && there) Member Stuck
+abbrev pub on_member : ℕ → Bool → Move
+on_member k there = cond ((eqb k kind.struct || eqb k kind.word) && there) Member Stuck
 
-abbrev pub onAutodeslice : ℕ → ℕ → Move
-onAutodeslice k mark =
-    cond (eqb k kind.slice && eqb mark of-mark.byView || eqb k kind.slicePointer && eqb mark of-mark.byPointer) Deslice Stuck
+abbrev pub on_autodeslice : ℕ → ℕ → Move
+on_autodeslice k mark =
+    cond (eqb k kind.slice && eqb mark of-mark.by_view || eqb k kind.slice_pointer && eqb mark of-mark.by_pointer) Deslice Stuck
 
-abbrev pub takesOff : ℕ → ℕ → Move
-takesOff k wanted = cond (eqb k wanted) Inside Stuck
+abbrev pub takes_off : ℕ → ℕ → Move
+takes_off k wanted = cond (eqb k wanted) Inside Stuck
 
 unfoldable pub move_of : ℕ → ℕ → ℕ → ℕ → Bool → Move
 move_of s mark k l there =
-    cond (eqb s of-step.element) (onElement k l)
-    (cond (eqb s of-step.member) (onMember k there)
-    (cond (eqb s of-step.autodeslice) (onAutodeslice k mark)
-    (cond (eqb s of-step.autoderef) (takesOff k kind.pointer)
-    (cond (eqb s of-step.autoview) (takesOff k kind.view)
+    cond (eqb s of-step.element) (on_element k l)
+    (cond (eqb s of-step.member) (on_member k there)
+    (cond (eqb s of-step.autodeslice) (on_autodeslice k mark)
+    (cond (eqb s of-step.autoderef) (takes_off k kind.pointer)
+    (cond (eqb s of-step.autoview) (takes_off k kind.view)
     Stuck))))
 
 -- The type at these words, where the flag tells that its outer layer counts as Arraylike.
@@ -39,8 +39,8 @@ seen ws b = cond b (layer kind.arraylike 0 0 ∷ inside (layers ws)) (layers ws)
 -- The words where a move leads, and the flag there.
 unfoldable pub onward : Move → List ℕ → List ℕ → List ℕ
 onward Stuck ws stored = ws
-onward Inside ws stored = innerWords ws
-onward TwoInside ws stored = innerWords (innerWords ws)
+onward Inside ws stored = inner_words ws
+onward TwoInside ws stored = inner_words (inner_words ws)
 onward Deslice ws stored = ws
 onward Member ws stored = stored
 

@@ -21,7 +21,7 @@ pub enum Move {
 }
 
 fn on_element(k: u64, l: u64) -> Move
-    ensures { result ≡ rules.onElement k l }
+    ensures { result ≡ rules.on_element k l }
 {
     if (k == Kind::ARRAY)
         | (k == Kind::ARRAY_WITH_NAMED_LENGTH)
@@ -37,7 +37,7 @@ fn on_element(k: u64, l: u64) -> Move
 }
 
 fn on_member(k: u64, there: bool) -> Move
-    ensures { result ≡ rules.onMember k there }
+    ensures { result ≡ rules.on_member k there }
 {
     if ((k == Kind::STRUCT) | (k == Kind::WORD)) & there {
         Move::Member
@@ -47,7 +47,7 @@ fn on_member(k: u64, there: bool) -> Move
 }
 
 fn on_autodeslice(k: u64, mark: u64) -> Move
-    ensures { result ≡ rules.onAutodeslice k mark }
+    ensures { result ≡ rules.on_autodeslice k mark }
 {
     if ((k == Kind::SLICE) & (mark == Mark::BY_VIEW))
         | ((k == Kind::SLICE_POINTER) & (mark == Mark::BY_POINTER))
@@ -60,7 +60,7 @@ fn on_autodeslice(k: u64, mark: u64) -> Move
 
 // Autoderef takes off a Pointer, Autoview a View.
 fn takes_off(k: u64, wanted: u64) -> Move
-    ensures { result ≡ rules.takesOff k wanted }
+    ensures { result ≡ rules.takes_off k wanted }
 {
     if k == wanted {
         Move::Inside

@@ -9,11 +9,11 @@ abbrev pub accepted : ℕ → Answer
 accepted v = record { refusal = 0; value = v }
 
 -- "document 01's number; value is its place"
-abbrev pub notAccepted : ℕ → ℕ → Answer
-notAccepted n p = record { refusal = n; value = p }
+abbrev pub not_accepted : ℕ → ℕ → Answer
+not_accepted n p = record { refusal = n; value = p }
 
 -- "accepted; value is the answer"; 0 where there is no such part.
 unfoldable pub flat : paper.Answer ℕ → Answer
 flat (given v) = accepted v
 flat nothing = accepted 0
-flat (refused n p) = notAccepted n p
+flat (refused n p) = not_accepted n p

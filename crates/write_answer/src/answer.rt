@@ -1,5 +1,5 @@
 ghost use Rattle.std.specs.Prelude.{◌≡◌};
-ghost use Rattle.type_layers.specs.Answer.{ofChecked, ofVerdict};
+ghost use Rattle.type_layers.specs.Answer.{of_checked, of_verdict};
 ghost use Rattle.write_answer.specs.Flat as rules;
 
 use type_layers::{Checked, Verdict};
@@ -19,7 +19,7 @@ pub fn accepted(value: u64) -> Answer
 }
 
 pub fn refused(number: u64, place: u64) -> Answer
-    ensures { result ≡ rules.notAccepted number place }
+    ensures { result ≡ rules.not_accepted number place }
 {
     Answer {
         refusal: number,
@@ -28,7 +28,7 @@ pub fn refused(number: u64, place: u64) -> Answer
 }
 
 pub fn checked(c: Checked) -> Answer
-    ensures { result ≡ rules.flat (ofChecked c) }
+    ensures { result ≡ rules.flat (of_checked c) }
 {
     match c {
         Checked::Good(n) => accepted(n),
@@ -37,7 +37,7 @@ pub fn checked(c: Checked) -> Answer
 }
 
 pub fn verdict(v: Verdict) -> Answer
-    ensures { result ≡ rules.flat (ofVerdict v) }
+    ensures { result ≡ rules.flat (of_verdict v) }
 {
     match v {
         Verdict::Yes => accepted(1),

@@ -3,15 +3,15 @@ use Rattle.std.specs.Prelude.{◌≡◌, cond, List, ℕ, ltb, length}
 use Rattle.type_numbers.specs.Limit as limit
 use Rattle.type_numbers.specs.Refusal as refusal
 use Rattle.type_layers.specs.Layers.{Layer, spelled}
-use Rattle.type_layers.specs.Answer.{Answer, given, nothing, refused, ofChecked}
+use Rattle.type_layers.specs.Answer.{Answer, given, nothing, refused, of_checked}
 use Rattle.write_words.specs.Written.{written}
 use Rattle.type_layers.specs.declared.answers.Checked.{Checked}
 
 -- "14 output too short for this result; 15 result over 16 layers", in the order "15, 14".
 unfoldable pub delivered : ℕ → Answer (List Layer) → Answer (List Layer)
 delivered room (given a) =
-    cond (ltb limit.layers (length a)) (refused refusal.tooManyLayers 0)
-    (cond (ltb room (length (spelled a))) (refused refusal.outputTooShort 0)
+    cond (ltb limit.layers (length a)) (refused refusal.too_many_layers 0)
+    (cond (ltb room (length (spelled a))) (refused refusal.output_too_short 0)
     (given a))
 delivered room nothing = nothing
 delivered room (refused n p) = refused n p
@@ -32,9 +32,9 @@ over (refused n p) b = b
 abbrev pub answer_in : List ℕ → Answer (List Layer) → Answer ℕ
 answer_in out o = told (delivered (length out) o)
 
-abbrev pub bufferIn : List ℕ → Answer (List Layer) → List ℕ
-bufferIn out o = over (delivered (length out) o) out
+abbrev pub buffer_in : List ℕ → Answer (List Layer) → List ℕ
+buffer_in out o = over (delivered (length out) o) out
 
 -- What is handed out for a type that was made, or a refusal: what the code says, and the output, before and then.
 abbrev pub Writes : Answer (List Layer) → Checked → List ℕ → List ℕ → Type 0
-Writes a r out out' = (ofChecked r ≡ answer_in out a) × (out' ≡ bufferIn out a)
+Writes a r out out' = (of_checked r ≡ answer_in out a) × (out' ≡ buffer_in out a)

@@ -1,12 +1,12 @@
 use borrow.Author.Rules.{rules}
-use Rattle.extern_fixing.specs.Answers.{fixedAnswer, fixedBuffer}
+use Rattle.extern_fixing.specs.Answers.{fixed_answer, fixed_buffer}
 use Rattle.write_type.proofs.Outcomes.{carried, stays}
 use Rattle.extern_fixing.proofs.Fixes.{checked-whole, unchecked, checked}
 use Rattle.extern_fixing.proofs.flags.fix_type_for_flags.Statement.{statement}
 use Rattle.extern_fixing.proofs.flags.fix_type_for_flags.Tie as tie
 
 pub fix-type-for-flags-spec : {M : Type 1} → statement M
-unfolding fixedAnswer fixedBuffer
+unfolding fixed_answer fixed_buffer
 fix-type-for-flags-spec =
     tie.close
     (tie.spec

@@ -1,10 +1,10 @@
 use borrow.Author.Rules.{rules}
-use Rattle.plan_turn.specs.AsCoded.{ofTurn}
+use Rattle.plan_turn.specs.AsCoded.{of_turn}
 use Rattle.plan_rounds.proofs.round.took.Statement.{statement}
 use Rattle.plan_rounds.proofs.round.took.Tie as tie
 
 pub took-spec : {M : Type 1} → statement M
-unfolding ofTurn
+unfolding of_turn
 took-spec =
     tie.close
     (tie.spec

@@ -3,7 +3,7 @@ use Prim.Native.Nat.{◌-◌, ◌/◌, ◌<◌}
 use native.Mathlib.Omega.{arith}
 use lib.ListN.{length}
 use borrow.Author.Rules.{rules}
-use Rattle.symbol_members.specs.AsCoded.{memberIn}
+use Rattle.symbol_members.specs.AsCoded.{member_in}
 use Rattle.plan_rounds.proofs.Reading.{none-fits, auto-fits, element-fits, desliced-fits, no_member, ill-formed, member-fits}
 use Rattle.plan_rounds.proofs.Looping.{Along, along-start, one_at_most, full, here-whole, push-room, few-steps, end-room, taken-fits, told-left, steps-left, type-left, told-end, steps-end, type-end, told-refusal, steps-stay, type-stays, along-turn}
 use Rattle.plan_rounds.proofs.rounds.plan_in_rounds.Statement.{statement}
@@ -11,7 +11,7 @@ use Rattle.plan_rounds.proofs.rounds.plan_in_rounds.Tie as tie
 
 abbrev invariant-loop : tie.invariant-loop
 invariant-loop flat count store known asked target level rounds steps ty buf₀ cur₀ rest₀ i₀ n₀ taken₀ buf cur rest i n taken =
-    Along (memberIn flat count store) rounds known asked buf cur rest i n taken
+    Along (member_in flat count store) rounds known asked buf cur rest i n taken
 
 abbrev decreases-loop : tie.decreases-loop
 decreases-loop flat count store known asked target level rounds steps ty buf₀ cur₀ rest₀ i₀ n₀ taken₀ buf cur rest i n taken = rounds - i

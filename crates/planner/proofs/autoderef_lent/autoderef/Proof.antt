@@ -40,7 +40,7 @@ use denote.Exit.{yes}
 use denote.Signature.{plain}
 use Rattle.type_layers.specs.Answer.{Answer}
 use Rattle.symbol_columns.specs.declared.symbol.Symbol.{Symbol}
-use Rattle.symbol_columns.specs.AsCoded.{readFrom}
+use Rattle.symbol_columns.specs.AsCoded.{read_from}
 use Rattle.symbol_lent.specs.AsCoded.{gathered}
 use Rattle.symbol_columns.specs.contracts.symbol.Symbol as R
 use Rattle.symbol_lent.proofs.Lending.{Flat, lent, Gather, zeros-typed, gathering, lends-columns, columns-back}
@@ -50,7 +50,7 @@ use Rattle.symbol_lent.proofs.gather.Met as gather-thm
 use Rattle.plan_report.specs.declared.report.Report.{Report}
 use Rattle.plan_report.specs.Plan.{Plan}
 use Rattle.plan_report.specs.Report.{Hands}
-use Rattle.planner.specs.Plans.{planAnswer}
+use Rattle.planner.specs.Plans.{plan_answer}
 use Rattle.planner.proofs.Asking.{plan-same}
 use Rattle.plan_report.specs.contracts.report.Report as B
 use Rattle.plan_report.proofs.report.Report.TheLaws as B'
@@ -151,14 +151,14 @@ module _ {M : Type 1} {𝓤 : Ura M} (𝓛 : Logic 𝓤) (at_mem : Memory → SP
 
   -- what the core says of a list of records
   abbrev answer : List Symbol → Answer Plan
-  answer l = planAnswer l x₄.now x₁.now x₂.now x₃.now d m (length x₅.now) (length x₆.now)
+  answer l = plan_answer l x₄.now x₁.now x₂.now x₃.now d m (length x₅.now) (length x₆.now)
 
   abbrev Said : List Symbol → Report → List ℕ → List ℕ → Type 0
   Said l r zs us = Hands (answer l) r x₅.now zs x₆.now us
 
-  on-table : (r : Report) (zs us : List ℕ) → Said (readFrom (gathered ys) 0 n) r zs us → Said ys r zs us
+  on-table : (r : Report) (zs us : List ℕ) → Said (read_from (gathered ys) 0 n) r zs us → Said ys r zs us
   on-table r zs us h =
-      let same : answer (readFrom (gathered ys) 0 n) ≡ answer ys = plan-same x₄.now x₁.now x₂.now x₃.now d m (length x₅.now) (length x₆.now) ys in
+      let same : answer (read_from (gathered ys) 0 n) ≡ answer ys = plan-same x₄.now x₁.now x₂.now x₃.now d m (length x₅.now) (length x₆.now) ys in
       subst (λ (p : Answer Plan). Hands p r x₅.now zs x₆.now us) same h
 
   exits : (r : Report) (zs us : List ℕ) → Is B.the_row r (B'.lowered r ∷ []) → Said ys r zs us → length zs ≡ length x₅.now → length us ≡ length x₆.now
@@ -273,10 +273,10 @@ module _ {M : Type 1} {𝓤 : Ura M} (𝓛 : Logic 𝓤) (at_mem : Memory → SP
         use1 𝓛 (later (some (λ (r : Report). ((‵ (flft (ν ∷ []) full_share) ⊛ Toks) ⊛ ‵ ((B.the_row).own_val r (w ∷ []))) ⊛ raw (ensured 𝓛 core.ended (core.clauses 𝓛 at_mem run) (ν ∷ [], (κ₀, (κ₁, (κ₂, (κ₃, tt))))) (lent l₁₀ δ (gathered ys), (n, rest)) tt r)))) (id⊢ 𝓤 _) $ await ! tt $ pick ! (λ r.
         split ! $
         move ! (1 ∷ []) $
-        use1 𝓛 (some (λ (zs : Lasts core.ended (ν ∷ [], (κ₀, (κ₁, (κ₂, (κ₃, tt))))) (lent l₁₀ δ (gathered ys), (n, rest))). ‵ (lasts core.ended (ν ∷ [], (κ₀, (κ₁, (κ₂, (κ₃, tt))))) (lent l₁₀ δ (gathered ys), (n, rest)) zs) ⊛ raw (fact 𝓤 (Said (readFrom (gathered ys) 0 n) r zs.1.1.1.1.1.1.1.1.0 zs.1.1.1.1.1.1.1.1.1.0)))) (id⊢ 𝓤 _) $ pick ! (λ zs.
+        use1 𝓛 (some (λ (zs : Lasts core.ended (ν ∷ [], (κ₀, (κ₁, (κ₂, (κ₃, tt))))) (lent l₁₀ δ (gathered ys), (n, rest))). ‵ (lasts core.ended (ν ∷ [], (κ₀, (κ₁, (κ₂, (κ₃, tt))))) (lent l₁₀ δ (gathered ys), (n, rest)) zs) ⊛ raw (fact 𝓤 (Said (read_from (gathered ys) 0 n) r zs.1.1.1.1.1.1.1.1.0 zs.1.1.1.1.1.1.1.1.1.0)))) (id⊢ 𝓤 _) $ pick ! (λ zs.
         split ! $
         move ! (1 ∷ []) $
-        heard ! (Said (readFrom (gathered ys) 0 n) r zs.1.1.1.1.1.1.1.1.0 zs.1.1.1.1.1.1.1.1.1.0) (λ said.
+        heard ! (Said (read_from (gathered ys) 0 n) r zs.1.1.1.1.1.1.1.1.0 zs.1.1.1.1.1.1.1.1.1.0) (λ said.
         fsplit ! $
         drop ! $
         fsplit ! $

@@ -6,11 +6,11 @@ use mathlib.Core.Path.{◌≡◌}
 use lib.ListN.{drop}
 use Rattle.type_layers.specs.Answer.{given}
 use Rattle.sheet_contents.specs.Contents.{types}
-use Rattle.sheet_read.specs.Sheet.{checkAll, readWords}
+use Rattle.sheet_read.specs.Sheet.{check_all, read_words}
 use Rattle.sheet_read.proofs.Checking.{no-sheet, check-begin, refused-here, check-more, check-end}
 
 abbrev invariant-loop : tie.invariant-loop
-invariant-loop words n k₀ k = checkAll (drop k (types words)) (given n) ≡ readWords words
+invariant-loop words n k₀ k = check_all (drop k (types words)) (given n) ≡ read_words words
 
 abbrev decreases-loop : tie.decreases-loop
 decreases-loop words n k₀ k = n - k

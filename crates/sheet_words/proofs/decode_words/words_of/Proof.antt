@@ -2,13 +2,13 @@ use borrow.Author.Rules.{rules}
 use Rattle.sheet_words.proofs.decode_words.words_of.Statement.{statement}
 use Rattle.sheet_words.proofs.decode_words.words_of.Tie as tie
 use Rattle.write_words.proofs.Writing.{Begun}
-use Rattle.sheet_words.specs.Little.{wholeWords}
+use Rattle.sheet_words.specs.Little.{whole_words}
 use Rattle.sheet_words.proofs.Decoding.{too_many, decode-begin, inside, decode-more, decoded}
 use lib.ListN.{replicate}
 use Prim.Native.Nat.{◌-◌}
 
 abbrev invariant-loop : tie.invariant-loop
-invariant-loop bytes words₀ n i₀ words i = Begun (wholeWords bytes) (replicate 1569 0) words i
+invariant-loop bytes words₀ n i₀ words i = Begun (whole_words bytes) (replicate 1569 0) words i
 
 abbrev decreases-loop : tie.decreases-loop
 decreases-loop bytes words₀ n i₀ words i = n - i

@@ -1,11 +1,11 @@
 use borrow.Author.Rules.{rules}
 use borrow.Author.Tests.{lt-ltb, le-ltb}
-use Rattle.symbol_columns.specs.AsCoded.{putRow}
+use Rattle.symbol_columns.specs.AsCoded.{put_row}
 use Rattle.symbol_columns.proofs.rows.put_row.Statement.{statement}
 use Rattle.symbol_columns.proofs.rows.put_row.Tie as tie
 
 pub put-row-spec : {M : Type 1} → statement M
-unfolding putRow
+unfolding put_row
 put-row-spec =
     tie.close
     (tie.spec

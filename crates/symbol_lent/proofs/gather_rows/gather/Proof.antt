@@ -56,8 +56,8 @@ use denote.Exit.{yes}
 use denote.Signature.{plain}
 use denote.Signature.Array.{array_of}
 use Rattle.symbol_columns.specs.Record.{vacant}
-use Rattle.symbol_columns.specs.AsCoded.{putRow}
-use Rattle.symbol_lent.specs.AsCoded.{rowsInto, gatheredInto}
+use Rattle.symbol_columns.specs.AsCoded.{put_row}
+use Rattle.symbol_lent.specs.AsCoded.{rows_into, gathered_into}
 use Rattle.symbol_columns.specs.declared.symbol.Symbol.{Symbol}
 use Rattle.symbol_lent.proofs.Gathering.{rows_start, rows_next, gather-many, gather-few}
 use Rattle.symbol_lent.proofs.Guard.{holds, fails, by-test, guarded}
@@ -145,7 +145,7 @@ module _ {M : Type 1} {𝓤 : Ura M} (𝓛 : Logic 𝓤) (at_mem : Memory → SP
   abbrev Seen : List ℕ → Fml
   Seen us = fobs x₂.name (Flat.coded.code us)
 
-  exits : (us : List ℕ) → us ≡ gatheredInto ws ys → ent 𝓤 (⋆ 𝓛 (‵ (flft κ q) ∷ ‵ Own ∷ ‵ (Seen us) ∷ ‵ (fbor κ₂ Held) ∷ ‵ (flft κ₂ q₂) ∷ [])) (Post vunit)
+  exits : (us : List ℕ) → us ≡ gathered_into ws ys → ent 𝓤 (⋆ 𝓛 (‵ (flft κ q) ∷ ‵ Own ∷ ‵ (Seen us) ∷ ‵ (fbor κ₂ Held) ∷ ‵ (flft κ₂ q₂) ∷ [])) (Post vunit)
   exits us e =
       qed 𝓛 (‵ (flft κ q) ∷ ‵ Own ∷ ‵ (Seen us) ∷ ‵ (fbor κ₂ Held) ∷ ‵ (flft κ₂ q₂) ∷ []) ∵
       suffices ! _ (ends_at 𝓛 f.ended stayed (f.clauses 𝓛 at_mem run) (((κ, (κ₂, tt)), (q, (q₂, tt)), tt, a, vals), tt) vunit tt (tt, (us, tt)) (tt, (tt, tt))) $ says ! e $
@@ -204,7 +204,7 @@ module _ {M : Type 1} {𝓤 : Ura M} (𝓛 : Logic 𝓤) (at_mem : Memory → SP
         ∷ ‵ (froom ref l₁₂ 0) ∷ ‵ (fdies ref l₁₂) ∷ ‵ (froom ty_unit l₁₁ 0) ∷ ‵ (fdies ty_unit l₁₁) ∷ ‵ (froom R'.mir l₁₀ 0) ∷ ‵ (fdies R'.mir l₁₀) ∷ ‵ (froom ty_ptr l₉ 0) ∷ ‵ (fdies ty_ptr l₉) ∷ ‵ (froom ty_bool l₈ 0) ∷ ‵ (fdies ty_bool l₈) ∷ ‵ (froom word l₇ 0) ∷ ‵ (fdies word l₇) ∷ ‵ (froom ty_bool l₆ 0) ∷ ‵ (fdies ty_bool l₆) ∷ ‵ (froom word l₅ 0) ∷ ‵ (fdies word l₅)
         ∷ ‵ (froom R'.mir l₄ 0) ∷ ‵ (fdies R'.mir l₄) ∷ ‵ (fat full_share word l₃ 0 (vint w64 i.0)) ∷ ‵ (fdies word l₃) ∷ ‵ (fat full_share flat l₂ 0 s₂) ∷ ‵ (fdies flat l₂)
         ∷ ‵ (fat full_share slice l₁ 0 s) ∷ ‵ (fdies slice l₁) ∷ ‵ (froom ty_unit l₀ 0) ∷ ‵ (fdies ty_unit l₀)
-        ∷ ‵ (part_at Flat full_share (rowsInto ws ys i.0) b₂ o₂) ∷ ‵ (fobor κ₂ q₂ Held) ∷ ‵ (Seen ws) ∷ ‵ (fauth x₂.name (Flat.coded.code ws)) ∷ ‵ Own ∷ []
+        ∷ ‵ (part_at Flat full_share (rows_into ws ys i.0) b₂ o₂) ∷ ‵ (fobor κ₂ q₂ Held) ∷ ‵ (Seen ws) ∷ ‵ (fauth x₂.name (Flat.coded.code ws)) ∷ ‵ Own ∷ []
 
     abbrev Turned : Upto → Out → SProp 𝓤
     Turned i = after_turn 𝓤 H (Below 𝓛 Nearer At i) (after_block 𝓤 H (after_seq 𝓤 H (Wp 𝓤 H C Λ En body.t-6 (at_return 𝓤 H En Post)) (at_return 𝓤 H En Post)))
@@ -214,7 +214,7 @@ module _ {M : Type 1} {𝓤 : Ura M} (𝓛 : Logic 𝓤) (at_mem : Memory → SP
     more i less =
         let l : i.0 < n = ltb→lt i.0 n less in
         let e : Symbol = get_or ys i.0 vacant in
-        let us : List ℕ = rowsInto ws ys i.0 in
+        let us : List ℕ = rows_into ws ys i.0 in
         let j : Upto = (i.0 + 1, add-one-le l) in
         assigns ! (of_opd ! (load ! (from ! (fld ! refl (stop !))) (look_in ! 24 (sub ! 1 refl (whole !))))) (from ! (stop !)) (init ! 12 refl (tt, record { fits = room.0 })) $
         assigns ! (bin ! (load ! (from ! (stop !)) (look ! 20 refl)) (load ! (from ! (stop !)) (look ! 12 refl)) (tt)) (from ! (stop !)) (init ! 10 refl (tt, tt)) $
@@ -242,10 +242,10 @@ module _ {M : Type 1} {𝓤 : Ura M} (𝓛 : Logic 𝓤) (at_mem : Memory → SP
         use1 𝓛 (later (some (λ (r : Unit {0}). ((‵ (flft (ν ∷ []) full_share) ⊛ ‵ ftrue) ⊛ ‵ (Nothing.own_val r (w ∷ []))) ⊛ raw (ensured 𝓛 put-row.ended (put-row.clauses 𝓛 at_mem run) (ν ∷ [], tt) (xδ δ us, (i.0, (e, tt))) tt r)))) (id⊢ 𝓤 _) $ await ! tt $ pick ! (λ r.
         split ! $
         move ! (1 ∷ []) $
-        use1 𝓛 (some (λ (zs : Lasts put-row.ended (ν ∷ [], tt) (xδ δ us, (i.0, (e, tt)))). ‵ (lasts put-row.ended (ν ∷ [], tt) (xδ δ us, (i.0, (e, tt))) zs) ⊛ raw (fact 𝓤 (zs.0 ≡ putRow us i.0 e)))) (id⊢ 𝓤 _) $ pick ! (λ zs.
+        use1 𝓛 (some (λ (zs : Lasts put-row.ended (ν ∷ [], tt) (xδ δ us, (i.0, (e, tt)))). ‵ (lasts put-row.ended (ν ∷ [], tt) (xδ δ us, (i.0, (e, tt))) zs) ⊛ raw (fact 𝓤 (zs.0 ≡ put_row us i.0 e)))) (id⊢ 𝓤 _) $ pick ! (λ zs.
         split ! $
         move ! (1 ∷ []) $
-        heard ! (zs.0 ≡ putRow us i.0 e) (λ said.
+        heard ! (zs.0 ≡ put_row us i.0 e) (λ said.
         fsplit ! $
         move ! (2 ∷ []) $
         split ! $
@@ -272,7 +272,7 @@ module _ {M : Type 1} {𝓤 : Ura M} (𝓛 : Logic 𝓤) (at_mem : Memory → SP
     ends : (i : Upto) → T (not (ltb i.0 n)) → Sq 𝓛 (At i) (runs C Λ En body.turn-1 (any_q (Turned i)))
     unfolding after_turn
     ends i nay =
-        let us : List ℕ = rowsInto ws ys i.0 in
+        let us : List ℕ = rows_into ws ys i.0 in
         assigns ! (of_opd ! (load ! (from ! (fld ! refl (stop !))) (look_in ! 24 (sub ! 1 refl (whole !))))) (from ! (stop !)) (init ! 12 refl (tt, record { fits = room.0 })) $
         assigns ! (bin ! (load ! (from ! (stop !)) (look ! 20 refl)) (load ! (from ! (stop !)) (look ! 12 refl)) (tt)) (from ! (stop !)) (init ! 10 refl (tt, tt)) $
         rewrite ! 10 (λ (z : Bool). ‵ (fat full_share ty_bool l₈ 0 (vbool z))) (fails (ltb i.0 n) nay) refl $
@@ -303,7 +303,7 @@ module _ {M : Type 1} {𝓤 : Ura M} (𝓛 : Logic 𝓤) (at_mem : Memory → SP
         move ! (5 ∷ 6 ∷ []) $ free1 ! $
         free0 ! $
         keep ! (3 ∷ 5 ∷ 0 ∷ 1 ∷ 2 ∷ []) $
-        by ! (exits us (ap (rowsInto ws ys) (le_antisymm i.1 (nltb→le i.0 n nay)) ∙ gather-few ws ys small))
+        by ! (exits us (ap (rows_into ws ys) (le_antisymm i.1 (nltb→le i.0 n nay)) ∙ gather-few ws ys small))
 
     turns : (i : Upto) → Sq 𝓛 (At i) (runs C Λ En body.turn-1 (any_q (Turned i)))
     turns i = by-test (ltb i.0 n) (more i) (ends i)

@@ -52,7 +52,7 @@ use Rattle.symbol_columns.specs.declared.symbol.Symbol.{Symbol}
 use Rattle.symbol_columns.specs.Record.{vacant}
 use Rattle.symbol_columns.specs.contracts.symbol.Symbol as R
 use Rattle.symbol_columns.proofs.symbol.Symbol.TheLaws as R'
-use Rattle.symbol_search.specs.Search.{has, slotFor}
+use Rattle.symbol_search.specs.Search.{has, slot_for}
 use Rattle.symbol_lent.proofs.Guard.{holds, fails, by-test}
 use Rattle.symbol_lent.proofs.Finding.{Passed, at-start, found, onward, over}
 use Rattle.symbol_lent.specs.contracts.search_lent.has_id as has-id
@@ -115,7 +115,7 @@ module _ {M : Type 1} {𝓤 : Ura M} (𝓛 : Logic 𝓤) (at_mem : Memory → SP
   abbrev Post : Val → SProp 𝓤
   Post = (walk_of 𝓛 f.ended stayed (f.clauses 𝓛 at_mem run)).post (((κ, tt), (q, tt), tt, a, vals), tt)
 
-  exits : (r : ℕ) → r ≡ slotFor id ys → r < 2 ^ 64 → ent 𝓤 (⋆ 𝓛 (‵ (flft κ q) ∷ ‵ Own ∷ [])) (Post (vint w64 r))
+  exits : (r : ℕ) → r ≡ slot_for id ys → r < 2 ^ 64 → ent 𝓤 (⋆ 𝓛 (‵ (flft κ q) ∷ ‵ Own ∷ [])) (Post (vint w64 r))
   exits r e fits =
       qed 𝓛 (‵ (flft κ q) ∷ ‵ Own ∷ []) ∵
       suffices ! _ (ends_at 𝓛 f.ended stayed (f.clauses 𝓛 at_mem run) (((κ, tt), (q, tt), tt, a, vals), tt) (vint w64 r) r (tt, (tt, tt)) (tt, (tt, tt))) $ says ! e $

@@ -3,9 +3,9 @@ use Prim.Native.Nat.{◌≤◌, ◌-◌, ◌*◌}
 use borrow.Author.Rules.{rules}
 use borrow.Author.Tests.{not-true, not-false}
 use lib.ListN.{length, drop}
-use Rattle.symbol_columns.specs.AsCoded.{readFrom}
+use Rattle.symbol_columns.specs.AsCoded.{read_from}
 use Rattle.symbol_columns.proofs.Reading.{from}
-use Rattle.symbol_order.specs.Order.{inOrder}
+use Rattle.symbol_order.specs.Order.{in_order}
 use Rattle.symbol_order.specs.AsCoded.{Noted}
 use Rattle.symbol_order.proofs.Onward.{onward, too_many, other-store, start, ends, breaks, goes_on, slot, noted-start, still_full, noted_more}
 use Rattle.symbol_order.proofs.order.in_order.Statement.{statement}
@@ -13,7 +13,7 @@ use Rattle.symbol_order.proofs.order.in_order.Tie as tie
 
 abbrev invariant-loop : tie.invariant-loop
 invariant-loop flat n store noted₀ free₀ k₀ noted free k =
-    (k ≤ n) × (length noted ≡ 512) × Noted noted flat k × (onward free (readFrom flat 0 k) (from flat n k) (drop (k * 48) store) ≡ inOrder (readFrom flat 0 n) store)
+    (k ≤ n) × (length noted ≡ 512) × Noted noted flat k × (onward free (read_from flat 0 k) (from flat n k) (drop (k * 48) store) ≡ in_order (read_from flat 0 n) store)
 
 abbrev decreases-loop : tie.decreases-loop
 decreases-loop flat n store noted₀ free₀ k₀ noted free k = n - k

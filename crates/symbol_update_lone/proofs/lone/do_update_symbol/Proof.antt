@@ -48,7 +48,7 @@ use Rattle.symbol_columns.proofs.symbol.Symbol.TheLaws as T'
 use Rattle.write_answer.specs.contracts.answer.Answer as R
 use Rattle.write_answer.proofs.answer.Answer.TheLaws as R'
 use Rattle.symbol_lent.proofs.Guard.{holds, fails, by-test, guarded}
-use Rattle.symbol_update_lone.specs.Lone.{loneUpdated, loneWordsAfter}
+use Rattle.symbol_update_lone.specs.Lone.{lone_updated, lone_words_after}
 use Rattle.symbol_update_lone.proofs.Theorems.{quiet, still}
 use Rattle.symbol_update.specs.declared.update_record.Updated.{Updated}
 use Rattle.symbol_update.specs.contracts.update_record.Updated as N
@@ -127,7 +127,7 @@ module _ {M : Type 1} {𝓤 : Ura M} (𝓛 : Logic 𝓤) (at_mem : Memory → SP
 
   -- what the callee says
   abbrev Said : Updated → List ℕ → Type 0
-  Said r zs = (r ≡ loneUpdated h x₁.now n t p x₂.now) × (zs ≡ loneWordsAfter h x₁.now t x₂.now)
+  Said r zs = (r ≡ lone_updated h x₁.now n t p x₂.now) × (zs ≡ lone_words_after h x₁.now t x₂.now)
 
   exits : (r : Updated) (last : Symbol) (zs : List ℕ) → Is R.the_row r.answer (R'.lowered r.answer ∷ []) → Said r zs → last ≡ r.symbol → length zs ≡ length x₁.now
       → ent 𝓤 (⋆ 𝓛 (‵ (fobs y.name ((T.the_row).coded.code last)) ∷ ‵ (fbor κ (Body (mem T.the_row) b o y.name)) ∷ ‵ (flft κ q) ∷ Toks ∷ ‵ (finally u64 x₁.name zs) ∷ ‵ Own₂ ∷ [])) (Post (R'.lowered r.answer))

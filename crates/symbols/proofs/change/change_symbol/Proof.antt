@@ -50,7 +50,7 @@ use denote.Exit.{yes}
 use denote.Signature.{plain}
 use Rattle.symbol_columns.specs.declared.symbol.Symbol.{Symbol}
 use Rattle.symbol_columns.specs.Record.{vacant}
-use Rattle.symbol_columns.specs.AsCoded.{readFrom}
+use Rattle.symbol_columns.specs.AsCoded.{read_from}
 use Rattle.symbol_lent.specs.AsCoded.{gathered}
 use Rattle.symbol_lent.proofs.Guard.{holds, fails, by-test, guarded}
 use Rattle.symbol_columns.specs.contracts.symbol.Symbol as R
@@ -63,9 +63,9 @@ use Rattle.write_answer.specs.declared.answer.Answer.{Answer}
 use Rattle.write_answer.specs.contracts.answer.Answer as B
 use Rattle.write_answer.proofs.answer.Answer.TheLaws as B'
 use Rattle.symbol_change.specs.Change.{outcome}
-use Rattle.symbol_change.specs.AsCoded.{changeOf, store_of}
+use Rattle.symbol_change.specs.AsCoded.{change_of, store_of}
 use Rattle.symbol_operations.specs.declared.operation.Operation.{Operation}
-use Rattle.symbol_operations.specs.AsCoded.{ofOperation}
+use Rattle.symbol_operations.specs.AsCoded.{of_operation}
 use Rattle.symbol_change.specs.declared.change.Change.{Change}
 use Rattle.symbol_change.proofs.Outcomes.{answer-is, store_is, table_kept, table-set}
 use Rattle.symbols.proofs.Whole.{change-same, store_same}
@@ -162,19 +162,19 @@ module _ {M : Type 1} {𝓤 : Ura M} (𝓛 : Logic 𝓤) (at_mem : Memory → SP
 
   -- what the core says of a list of records, and what the function does
   abbrev Said : List Symbol → Change → List ℕ → Type 0
-  Said l r zs = (r ≡ changeOf (ofOperation op) d t p m x₂.now l x₁.now) × (zs ≡ store_of (ofOperation op) d t p m x₂.now l x₁.now)
+  Said l r zs = (r ≡ change_of (of_operation op) d t p m x₂.now l x₁.now) × (zs ≡ store_of (of_operation op) d t p m x₂.now l x₁.now)
 
   abbrev Says : Answer → List Symbol → List ℕ → Type 0
-  Says r zs₀ zs = (r ≡ (outcome (ofOperation op) d t p m x₂.now ys x₁.now).answer) × (zs₀ ≡ (outcome (ofOperation op) d t p m x₂.now ys x₁.now).table) × (zs ≡ (outcome (ofOperation op) d t p m x₂.now ys x₁.now).store)
+  Says r zs₀ zs = (r ≡ (outcome (of_operation op) d t p m x₂.now ys x₁.now).answer) × (zs₀ ≡ (outcome (of_operation op) d t p m x₂.now ys x₁.now).table) × (zs ≡ (outcome (of_operation op) d t p m x₂.now ys x₁.now).store)
 
-  on-table : (r : Change) (zs : List ℕ) → Said (readFrom (gathered ys) 0 n) r zs → Said ys r zs
-  on-table r zs h = (h.0 ∙ change-same (ofOperation op) d t p m x₂.now ys x₁.now, h.1 ∙ store_same (ofOperation op) d t p m x₂.now ys x₁.now)
+  on-table : (r : Change) (zs : List ℕ) → Said (read_from (gathered ys) 0 n) r zs → Said ys r zs
+  on-table r zs h = (h.0 ∙ change-same (of_operation op) d t p m x₂.now ys x₁.now, h.1 ∙ store_same (of_operation op) d t p m x₂.now ys x₁.now)
 
   kept-says : (r : Change) (zs : List ℕ) → Said ys r zs → T (leb n r.slot) → Says r.answer ys zs
-  kept-says r zs h out = (answer-is (ofOperation op) d t p m x₂.now ys x₁.now r h.0, table_kept (ofOperation op) d t p m x₂.now ys x₁.now r h.0 out, h.1 ∙ store_is (ofOperation op) d t p m x₂.now ys x₁.now)
+  kept-says r zs h out = (answer-is (of_operation op) d t p m x₂.now ys x₁.now r h.0, table_kept (of_operation op) d t p m x₂.now ys x₁.now r h.0 out, h.1 ∙ store_is (of_operation op) d t p m x₂.now ys x₁.now)
 
   stored-says : (r : Change) (zs : List ℕ) → Said ys r zs → T (not (leb n r.slot)) → Says r.answer (set ys r.slot r.symbol) zs
-  stored-says r zs h inside = (answer-is (ofOperation op) d t p m x₂.now ys x₁.now r h.0, table-set (ofOperation op) d t p m x₂.now ys x₁.now r h.0 inside, h.1 ∙ store_is (ofOperation op) d t p m x₂.now ys x₁.now)
+  stored-says r zs h inside = (answer-is (of_operation op) d t p m x₂.now ys x₁.now r h.0, table-set (of_operation op) d t p m x₂.now ys x₁.now r h.0 inside, h.1 ∙ store_is (of_operation op) d t p m x₂.now ys x₁.now)
 
   exits : (r : Answer) (zs₀ : List Symbol) (zs : List ℕ) → Is B.the_row r (B'.lowered r ∷ []) → Says r zs₀ zs → length zs₀ ≡ n → length zs ≡ length x₁.now
       → ent 𝓤 (⋆ 𝓛 (TT ∷ ‵ (Own₀ zs₀) ∷ ‵ (finally u64 x₁.name zs) ∷ ‵ Own₂ ∷ [])) (Post (B'.lowered r))
@@ -263,10 +263,10 @@ module _ {M : Type 1} {𝓤 : Ura M} (𝓛 : Logic 𝓤) (at_mem : Memory → SP
         use1 𝓛 (later (some (λ (r : Change). ((‵ (flft (ν₁ ∷ []) full_share) ⊛ Toks) ⊛ ‵ ((N.the_row).own_val r (w ∷ []))) ⊛ raw (ensured 𝓛 choose.ended (choose.clauses 𝓛 at_mem run) (ν₁ ∷ [], (κ₁, (κ₂, tt))) (lent l₉ δ₁ (gathered ys), (n, rest)) tt r)))) (id⊢ 𝓤 _) $ await ! tt $ pick ! (λ r.
         split ! $
         move ! (1 ∷ []) $
-        use1 𝓛 (some (λ (zs : Lasts choose.ended (ν₁ ∷ [], (κ₁, (κ₂, tt))) (lent l₉ δ₁ (gathered ys), (n, rest))). ‵ (lasts choose.ended (ν₁ ∷ [], (κ₁, (κ₂, tt))) (lent l₉ δ₁ (gathered ys), (n, rest)) zs) ⊛ raw (fact 𝓤 (Said (readFrom (gathered ys) 0 n) r zs.1.1.0)))) (id⊢ 𝓤 _) $ pick ! (λ zs.
+        use1 𝓛 (some (λ (zs : Lasts choose.ended (ν₁ ∷ [], (κ₁, (κ₂, tt))) (lent l₉ δ₁ (gathered ys), (n, rest))). ‵ (lasts choose.ended (ν₁ ∷ [], (κ₁, (κ₂, tt))) (lent l₉ δ₁ (gathered ys), (n, rest)) zs) ⊛ raw (fact 𝓤 (Said (read_from (gathered ys) 0 n) r zs.1.1.0)))) (id⊢ 𝓤 _) $ pick ! (λ zs.
         split ! $
         move ! (1 ∷ []) $
-        heard ! (Said (readFrom (gathered ys) 0 n) r zs.1.1.0) (λ told.
+        heard ! (Said (read_from (gathered ys) 0 n) r zs.1.1.0) (λ told.
         fsplit ! $
         drop ! $
         fsplit ! $

@@ -40,7 +40,7 @@ use denote.Triple.Walked.{says, Stays, stay_none, stay_none_slice, gave_ref, wal
 use denote.Exit.{yes}
 use denote.Signature.{plain}
 use Rattle.symbol_columns.specs.declared.symbol.Symbol.{Symbol}
-use Rattle.symbol_columns.specs.AsCoded.{readFrom}
+use Rattle.symbol_columns.specs.AsCoded.{read_from}
 use Rattle.symbol_lent.specs.AsCoded.{gathered}
 use Rattle.symbol_columns.specs.contracts.symbol.Symbol as R
 use Rattle.symbol_lent.proofs.Lending.{Flat, lent, Gather, zeros-typed, gathering, lends-columns, columns-back}
@@ -51,7 +51,7 @@ use Rattle.write_answer.specs.declared.answer.Answer.{Answer}
 use Rattle.write_answer.specs.contracts.answer.Answer as B
 use Rattle.write_answer.proofs.answer.Answer.TheLaws as B'
 use Rattle.symbol_get.specs.Got.{Got}
-use Rattle.symbol_get.specs.Get.{got, told, foundAfter}
+use Rattle.symbol_get.specs.Get.{got, told, found_after}
 use Rattle.symbols.proofs.Whole.{got_same}
 use Rattle.symbol_get.specs.contracts.get_among as core
 use Rattle.symbol_get.proofs.get_among.Symbol as core-def
@@ -129,12 +129,12 @@ module _ {M : Type 1} {𝓤 : Ura M} (𝓛 : Logic 𝓤) (at_mem : Memory → SP
 
   -- what the core says of a list of records
   abbrev Said : List Symbol → Answer → ℕ → Type 0
-  Said l r z = (r ≡ told (got d t l x₁.now)) × (z ≡ foundAfter (got d t l x₁.now) x₂.now)
+  Said l r z = (r ≡ told (got d t l x₁.now)) × (z ≡ found_after (got d t l x₁.now) x₂.now)
 
-  on-table : (r : Answer) (z : ℕ) → Said (readFrom (gathered ys) 0 n) r z → Said ys r z
+  on-table : (r : Answer) (z : ℕ) → Said (read_from (gathered ys) 0 n) r z → Said ys r z
   on-table r z h =
       let same = got_same d ys x₁.now t in
-      (h.0 ∙ ap told same, h.1 ∙ ap (λ (g : Got). foundAfter g x₂.now) same)
+      (h.0 ∙ ap told same, h.1 ∙ ap (λ (g : Got). found_after g x₂.now) same)
 
   exits : (r : Answer) (z : ℕ) → Is B.the_row r (B'.lowered r ∷ []) → Said ys r z → ent 𝓤 (⋆ 𝓛 (TT ∷ ‵ Own ∷ ‵ Own₁ ∷ ‵ (Fin z) ∷ [])) (Post (B'.lowered r))
   exits r z is e =
@@ -204,10 +204,10 @@ module _ {M : Type 1} {𝓤 : Ura M} (𝓛 : Logic 𝓤) (at_mem : Memory → SP
         use1 𝓛 (later (some (λ (r : Answer). ((‵ (flft (ν ∷ []) full_share) ⊛ Toks) ⊛ ‵ ((B.the_row).own_val r (w ∷ []))) ⊛ raw (ensured 𝓛 core.ended (core.clauses 𝓛 at_mem run) (ν ∷ [], (κ₁, (κ₂, tt))) (lent l₆ δ (gathered ys), (n, rest)) tt r)))) (id⊢ 𝓤 _) $ await ! tt $ pick ! (λ r.
         split ! $
         move ! (1 ∷ []) $
-        use1 𝓛 (some (λ (zs : Lasts core.ended (ν ∷ [], (κ₁, (κ₂, tt))) (lent l₆ δ (gathered ys), (n, rest))). ‵ (lasts core.ended (ν ∷ [], (κ₁, (κ₂, tt))) (lent l₆ δ (gathered ys), (n, rest)) zs) ⊛ raw (fact 𝓤 (Said (readFrom (gathered ys) 0 n) r zs.1.1.1.1.1.0)))) (id⊢ 𝓤 _) $ pick ! (λ zs.
+        use1 𝓛 (some (λ (zs : Lasts core.ended (ν ∷ [], (κ₁, (κ₂, tt))) (lent l₆ δ (gathered ys), (n, rest))). ‵ (lasts core.ended (ν ∷ [], (κ₁, (κ₂, tt))) (lent l₆ δ (gathered ys), (n, rest)) zs) ⊛ raw (fact 𝓤 (Said (read_from (gathered ys) 0 n) r zs.1.1.1.1.1.0)))) (id⊢ 𝓤 _) $ pick ! (λ zs.
         split ! $
         move ! (1 ∷ []) $
-        heard ! (Said (readFrom (gathered ys) 0 n) r zs.1.1.1.1.1.0) (λ said.
+        heard ! (Said (read_from (gathered ys) 0 n) r zs.1.1.1.1.1.0) (λ said.
         fsplit ! $
         drop ! $
         fsplit ! $

@@ -38,7 +38,7 @@ use denote.Exit.{yes}
 use denote.Signature.{plain}
 use seplogic.Ra.TreeShare.{full_share}
 use Rattle.symbol_columns.specs.declared.symbol.Symbol.{Symbol}
-use Rattle.symbol_columns.specs.AsCoded.{readFrom}
+use Rattle.symbol_columns.specs.AsCoded.{read_from}
 use Rattle.symbol_lent.specs.AsCoded.{gathered}
 use Rattle.symbol_columns.specs.contracts.symbol.Symbol as R
 use Rattle.symbol_lent.proofs.Lending.{Flat, lent, Gather, zeros-typed, gathering, lends-columns, columns-back}
@@ -127,8 +127,8 @@ module _ {M : Type 1} {𝓤 : Ura M} (𝓛 : Logic 𝓤) (at_mem : Memory → SP
       qed 𝓛 ((‵ (flft (ν ∷ []) full_share) ⊛ Toks) ∷ ‵ Own₁ ∷ ‵ (Lent l ν δ) ∷ []) ∵ nothing ! $ owned ! u32 (Is u32) (uint_Makes 𝓛 w32) d _ (refl, d-fits) $ fjoin ! $ move ! (2 ∷ 0 ∷ []) $ fjoin ! $ owned ! usize (Is usize) (uint_Makes 𝓛 w64) n _ (refl, room.0) $ fjoin ! $
       move ! (2 ∷ 0 ∷ []) $ fjoin ! $ move ! (1 ∷ 0 ∷ []) $ join ! $ frame ! $ done !
 
-  told-core : (l ν : ℕ) (δ : GName) (r : Bor (List ℕ)) → ent 𝓤 (ensured 𝓛 core.ended (core.clauses 𝓛 at_mem run) (ν ∷ [], (κ₁, tt)) (lent l δ (gathered ys), (n, rest)) tt r) (fact 𝓤 (r.now ≡ type_of d (readFrom (gathered ys) 0 n) x₁.now))
-  told-core l ν δ r = ex_e 𝓤 _ (λ zs. snd∗ 𝓤 (sem 𝓛 (lasts core.ended (ν ∷ [], (κ₁, tt)) (lent l δ (gathered ys), (n, rest)) zs)) (fact 𝓤 (r.now ≡ type_of d (readFrom (gathered ys) 0 n) x₁.now)))
+  told-core : (l ν : ℕ) (δ : GName) (r : Bor (List ℕ)) → ent 𝓤 (ensured 𝓛 core.ended (core.clauses 𝓛 at_mem run) (ν ∷ [], (κ₁, tt)) (lent l δ (gathered ys), (n, rest)) tt r) (fact 𝓤 (r.now ≡ type_of d (read_from (gathered ys) 0 n) x₁.now))
+  told-core l ν δ r = ex_e 𝓤 _ (λ zs. snd∗ 𝓤 (sem 𝓛 (lasts core.ended (ν ∷ [], (κ₁, tt)) (lent l δ (gathered ys), (n, rest)) zs)) (fact 𝓤 (r.now ≡ type_of d (read_from (gathered ys) 0 n) x₁.now)))
 
   module _ (C : Calls 𝓤 H) (Λ : Loops 𝓤 H) (fm : FmC 𝓤 H 𝓛.laws C) (known-gather : Triple 𝓤 (C #gather) (Gather 𝓛 at_mem run)) (known-core : Triple 𝓤 (C #type-among) (Core 𝓛 at_mem run)) where
     walk : ent 𝓤 (on_entry 𝓛 f.signature (κ, (κ₁, tt)) (q, (q₁, tt)) a vals) (WpFn 𝓤 H C Λ code.function (s ∷ s₁ ∷ vint w32 d ∷ []) Post)
@@ -166,8 +166,8 @@ module _ {M : Type 1} {𝓤 : Ura M} (𝓛 : Logic 𝓤) (at_mem : Memory → SP
         use1 𝓛 (later (some (λ (r : Bor (List ℕ)). ((‵ (flft (ν ∷ []) full_share) ⊛ Toks) ⊛ ‵ (Part.own_val r (w ∷ []))) ⊛ raw (ensured 𝓛 core.ended (core.clauses 𝓛 at_mem run) (ν ∷ [], (κ₁, tt)) (lent l₄ δ (gathered ys), (n, rest)) tt r)))) (id⊢ 𝓤 _) $ await ! tt $ pick ! (λ r.
         split ! $
         move ! (1 ∷ []) $
-        use1 𝓛 (raw (fact 𝓤 (r.now ≡ type_of d (readFrom (gathered ys) 0 n) x₁.now))) (told-core l₄ ν δ r) $
-        heard ! (r.now ≡ type_of d (readFrom (gathered ys) 0 n) x₁.now) (λ said.
+        use1 𝓛 (raw (fact 𝓤 (r.now ≡ type_of d (read_from (gathered ys) 0 n) x₁.now))) (told-core l₄ ν δ r) $
+        heard ! (r.now ≡ type_of d (read_from (gathered ys) 0 n) x₁.now) (λ said.
         split ! $
         move ! (1 ∷ []) $
         peeks ! Part (Is Part) (shows 𝓛 Part) r (w ∷ []) (λ is.

@@ -97,8 +97,8 @@ module _ {M : Type 1} {𝓤 : Ura M} (𝓛 : Logic 𝓤) (at_mem : Memory → SP
     goes-forward : ent 𝓤 (⋆ 𝓛 (‵ ftrue ∷ [])) (K.pre to-forward)
     goes-forward = qed 𝓛 (‵ ftrue ∷ []) ∵ owned ! I.the_row (Is I.the_row) (EL.makes I.the_type I'.the_plain 𝓛) given _ is-given $ fjoin ! $ nothing ! $ join ! $ frame ! $ done !
 
-    told : (o : Operation) → ent 𝓤 (ensured 𝓛 k.ended (k.clauses 𝓛 at_mem run) tt (given, tt) tt o) (fact 𝓤 (as-coded.ofOperation o ≡ operations.forward given))
-    told o = ex_e 𝓤 _ (λ zs. snd∗ 𝓤 (sem 𝓛 (lasts k.ended tt (given, tt) zs)) (fact 𝓤 (as-coded.ofOperation o ≡ operations.forward given)))
+    told : (o : Operation) → ent 𝓤 (ensured 𝓛 k.ended (k.clauses 𝓛 at_mem run) tt (given, tt) tt o) (fact 𝓤 (as-coded.of_operation o ≡ operations.forward given))
+    told o = ex_e 𝓤 _ (λ zs. snd∗ 𝓤 (sem 𝓛 (lasts k.ended tt (given, tt) zs)) (fact 𝓤 (as-coded.of_operation o ≡ operations.forward given)))
 
     -- handed on, in the place of what was given
     abbrev z : Operation → Val → Q.Ghost
@@ -119,7 +119,7 @@ module _ {M : Type 1} {𝓤 : Ura M} (𝓛 : Logic 𝓤) (at_mem : Memory → SP
     same v w r declared.Poison = id⊢ 𝓤 _
     same v w r declared.Type = id⊢ 𝓤 _
 
-    out : (o : Operation) (v : Val) → as-coded.ofOperation o ≡ operations.forward given → (w : Val) (r : Answer) →
+    out : (o : Operation) (v : Val) → as-coded.of_operation o ≡ operations.forward given → (w : Val) (r : Answer) →
         ent 𝓤 (Got 𝓛 g.signature (g.spec 𝓛 at_mem run) (z o v) w r) (Got 𝓛 f.signature (f.spec 𝓛 at_mem run) y w r)
     out o v said w r =
         subst (λ (p : Operation). ent 𝓤 (Got 𝓛 g.signature (g.spec 𝓛 at_mem run) (z p v) w r) (Got 𝓛 f.signature (f.spec 𝓛 at_mem run) y w r))
@@ -142,7 +142,7 @@ module _ {M : Type 1} {𝓤 : Ura M} (𝓛 : Logic 𝓤) (at_mem : Memory → SP
         nothing ! $ use1 𝓛 (raw (K.pre to-forward)) (goes-forward) $
         calls_at ! fm K known-forward to-forward (and_then ! (load ! (from ! (stop !)) (look ! 21 refl)) (no_more !)) (λ v.
         use1 𝓛 (later (some (λ (o : Operation). (‵ ftrue ⊛ ‵ ((O.the_row).own_val o (v ∷ []))) ⊛ raw (ensured 𝓛 k.ended (k.clauses 𝓛 at_mem run) tt (given, tt) tt o)))) (id⊢ 𝓤 _) $ await ! tt $ pick ! (λ o.
-        split ! $ move ! (1 ∷ []) $ use1 𝓛 (raw (fact 𝓤 (as-coded.ofOperation o ≡ operations.forward given))) (told o) $ heard ! (as-coded.ofOperation o ≡ operations.forward given) (λ said. split ! $ move ! (1 ∷ []) $
+        split ! $ move ! (1 ∷ []) $ use1 𝓛 (raw (fact 𝓤 (as-coded.of_operation o ≡ operations.forward given))) (told o) $ heard ! (as-coded.of_operation o ≡ operations.forward given) (λ said. split ! $ move ! (1 ∷ []) $
         peeks ! O.the_row (Is O.the_row) (shows 𝓛 O.the_row) o (v ∷ []) (λ is-op.
         land ! (from ! (stop !)) (init ! 2 refl ((EL.lawful O.the_type O'.the_laws 𝓛 tt).typed o _ is-op).0) $ move ! (30 ∷ 0 ∷ []) $ use2 𝓛 (raw (Q.pre (z o v))) (into o v) $
         calls_at ! fm Q known (z o v) (and_then ! (load ! (from ! (stop !)) (look ! 8 refl)) (and_then ! (load ! (from ! (stop !)) (look ! 4 refl)) (and_then ! (load ! (from ! (stop !)) (look ! 2 refl)) (and_then ! (load ! (from ! (stop !)) (look ! 20 refl)) (and_then ! (load ! (from ! (stop !)) (look ! 18 refl)) (and_then ! (load ! (from ! (stop !)) (look ! 16 refl)) (and_then ! (load ! (from ! (stop !)) (look ! 14 refl)) (and_then ! (load ! (from ! (stop !)) (look ! 12 refl)) (no_more !))))))))) (λ w. answered 𝓛 g.signature (g.spec 𝓛 at_mem run) (z o v) w ! tt (λ r is.

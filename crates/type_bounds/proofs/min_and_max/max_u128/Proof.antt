@@ -1,11 +1,11 @@
 use borrow.Author.Rules.{rules}
 use Rattle.type_checks.proofs.Refusals.{refuses, accepts}
-use Rattle.type_bounds.specs.Bounds.{highestAnswer}
+use Rattle.type_bounds.specs.Bounds.{highest_answer}
 use Rattle.type_bounds.proofs.min_and_max.max_u128.Statement.{statement}
 use Rattle.type_bounds.proofs.min_and_max.max_u128.Tie as tie
 
 pub max-u128-spec : {M : Type 1} → statement M
-unfolding highestAnswer
+unfolding highest_answer
 max-u128-spec =
     tie.close
     (tie.spec

@@ -1,12 +1,12 @@
 use borrow.Author.Rules.{rules}
-use Rattle.type_part_starts.specs.PartStarts.{startAnswer}
+use Rattle.type_part_starts.specs.PartStarts.{start_answer}
 use Rattle.type_checks.proofs.Refusals.{refuses, accepts}
 use Rattle.type_part_starts.proofs.Places.{passes}
 use Rattle.type_part_starts.proofs.part_starts.start_of.Statement.{statement}
 use Rattle.type_part_starts.proofs.part_starts.start_of.Tie as tie
 
 pub start-of-spec : {M : Type 1} → statement M
-unfolding startAnswer
+unfolding start_answer
 start-of-spec =
     tie.close
     (tie.spec

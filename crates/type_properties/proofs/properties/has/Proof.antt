@@ -1,12 +1,12 @@
 use borrow.Author.Rules.{rules}
 use Rattle.type_checks.proofs.Refusals.{refuses, accepts, answered}
 use Rattle.type_properties.proofs.Told.{property-at}
-use Rattle.type_properties.specs.Properties.{propertyAnswer}
+use Rattle.type_properties.specs.Properties.{property_answer}
 use Rattle.type_properties.proofs.properties.has.Statement.{statement}
 use Rattle.type_properties.proofs.properties.has.Tie as tie
 
 pub has-spec : {M : Type 1} → statement M
-unfolding propertyAnswer
+unfolding property_answer
 has-spec =
     tie.close
     (tie.spec

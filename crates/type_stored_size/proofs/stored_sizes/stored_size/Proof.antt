@@ -1,12 +1,12 @@
 use borrow.Author.Rules.{rules}
 use Rattle.type_checks.proofs.Refusals.{refuses, accepts}
-use Rattle.type_stored_size.specs.StoredSize.{storedSizeAnswer}
+use Rattle.type_stored_size.specs.StoredSize.{stored_size_answer}
 use Rattle.type_stored_size.proofs.Measured.{at-most-8}
 use Rattle.type_stored_size.proofs.stored_sizes.stored_size.Statement.{statement}
 use Rattle.type_stored_size.proofs.stored_sizes.stored_size.Tie as tie
 
 pub stored-size-spec : {M : Type 1} → statement M
-unfolding storedSizeAnswer
+unfolding stored_size_answer
 stored-size-spec =
     tie.close
     (tie.spec

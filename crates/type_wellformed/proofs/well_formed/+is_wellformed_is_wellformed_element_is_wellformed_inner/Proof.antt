@@ -6,7 +6,7 @@ use Rattle.type_layers.proofs.Cycle.{at, below}
 use Rattle.type_layers.proofs.Words.{shorter-by}
 use Rattle.type_wellformed.proofs.Fits.{formed-none, type-array, type-reference, type-leaf, element-none, element-held, element-not, inner-none, inner-array, inner-pointer, inner-not, inner-leaf}
 use Rattle.type_layers.proofs.is_array.Reads as is-array
-use Rattle.type_layers.proofs.is_slice.Reads as is_Slice
+use Rattle.type_layers.proofs.is_slice.Reads as is-slice
 use Rattle.type_layers.proofs.is_reference.Reads as is-reference
 use Rattle.type_wellformed.proofs.well_formed.can_be_element.Reads as can-be-element
 use Rattle.type_wellformed.proofs.well_formed.is_wellformed.Reads as whole
@@ -34,8 +34,8 @@ pub +is-wellformed-is-wellformed-element-is-wellformed-inner-spec : {M : Type 1}
     (λ t. whole-lts.spec (
       is-array.Asked,
       is-array.Learnt,
-      is_Slice.Asked,
-      is_Slice.Learnt,
+      is-slice.Asked,
+      is-slice.Learnt,
       below 1 ps μ-element element.Pre t,
       element.Post,
       is-reference.Asked,

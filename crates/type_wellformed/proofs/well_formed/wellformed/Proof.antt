@@ -1,11 +1,11 @@
 use borrow.Author.Rules.{rules}
 use Rattle.type_checks.proofs.Refusals.{refuses, accepts, answered}
-use Rattle.type_wellformed.specs.WellFormed.{wellFormedAnswer}
+use Rattle.type_wellformed.specs.WellFormed.{well_formed_answer}
 use Rattle.type_wellformed.proofs.well_formed.wellformed.Statement.{statement}
 use Rattle.type_wellformed.proofs.well_formed.wellformed.Tie as tie
 
 pub wellformed-spec : {M : Type 1} → statement M
-unfolding wellFormedAnswer
+unfolding well_formed_answer
 wellformed-spec =
     tie.close
     (tie.spec

@@ -42,7 +42,7 @@ use denote.Signature.{plain}
 use Rattle.type_layers.specs.Layers.{Layer}
 use Rattle.type_layers.specs.Answer as paper
 use Rattle.symbol_columns.specs.declared.symbol.Symbol.{Symbol}
-use Rattle.symbol_columns.specs.AsCoded.{readFrom}
+use Rattle.symbol_columns.specs.AsCoded.{read_from}
 use Rattle.symbol_lent.specs.AsCoded.{gathered}
 use Rattle.symbol_columns.specs.contracts.symbol.Symbol as R
 use Rattle.symbol_lent.proofs.Lending.{Flat, lent, Gather, zeros-typed, gathering, lends-columns, columns-back}
@@ -53,8 +53,8 @@ use Rattle.write_answer.specs.Flat.{flat}
 use Rattle.write_answer.specs.declared.answer.Answer.{Answer}
 use Rattle.write_answer.specs.contracts.answer.Answer as B
 use Rattle.write_answer.proofs.answer.Answer.TheLaws as B'
-use Rattle.write_type.specs.Outcome.{answer_in, bufferIn}
-use Rattle.walker_run.specs.Walked.{walkTo}
+use Rattle.write_type.specs.Outcome.{answer_in, buffer_in}
+use Rattle.walker_run.specs.Walked.{walk_to}
 use Rattle.walker_run.proofs.Stepping.{walk_same}
 use Rattle.walker_run.specs.contracts.steps_taken.walk_among as core
 use Rattle.walker_run.proofs.steps_taken.walk_among.Symbol as core-def
@@ -141,15 +141,15 @@ module _ {M : Type 1} {𝓤 : Ura M} (𝓛 : Logic 𝓤) (at_mem : Memory → SP
 
   -- what the core says of a list of records
   abbrev reached : List Symbol → paper.Answer (List Layer)
-  reached l = walkTo x₁.now x₂.now t l x₃.now
+  reached l = walk_to x₁.now x₂.now t l x₃.now
 
   abbrev Said : List Symbol → Answer → List ℕ → Type 0
-  Said l r zs = (r ≡ flat (answer_in x₄.now (reached l))) × (zs ≡ bufferIn x₄.now (reached l))
+  Said l r zs = (r ≡ flat (answer_in x₄.now (reached l))) × (zs ≡ buffer_in x₄.now (reached l))
 
-  on-table : (r : Answer) (zs : List ℕ) → Said (readFrom (gathered ys) 0 n) r zs → Said ys r zs
+  on-table : (r : Answer) (zs : List ℕ) → Said (read_from (gathered ys) 0 n) r zs → Said ys r zs
   on-table r zs h =
-      let same : reached (readFrom (gathered ys) 0 n) ≡ reached ys = walk_same x₁.now x₂.now x₃.now t ys in
-      (h.0 ∙ ap (λ (z : paper.Answer (List Layer)). flat (answer_in x₄.now z)) same, h.1 ∙ ap (λ (z : paper.Answer (List Layer)). bufferIn x₄.now z) same)
+      let same : reached (read_from (gathered ys) 0 n) ≡ reached ys = walk_same x₁.now x₂.now x₃.now t ys in
+      (h.0 ∙ ap (λ (z : paper.Answer (List Layer)). flat (answer_in x₄.now z)) same, h.1 ∙ ap (λ (z : paper.Answer (List Layer)). buffer_in x₄.now z) same)
 
   exits : (r : Answer) (zs : List ℕ) → Is B.the_row r (B'.lowered r ∷ []) → Said ys r zs → length zs ≡ length x₄.now
       → ent 𝓤 (⋆ 𝓛 (TT ∷ ‵ Own₁ ∷ ‵ Own₂ ∷ ‵ Own ∷ ‵ Own₃ ∷ ‵ (finally u64 x₄.name zs) ∷ [])) (Post (B'.lowered r))
@@ -241,10 +241,10 @@ module _ {M : Type 1} {𝓤 : Ura M} (𝓛 : Logic 𝓤) (at_mem : Memory → SP
         use1 𝓛 (later (some (λ (r : Answer). ((‵ (flft (ν ∷ []) full_share) ⊛ Toks) ⊛ ‵ ((B.the_row).own_val r (w ∷ []))) ⊛ raw (ensured 𝓛 core.ended (core.clauses 𝓛 at_mem run) (ν ∷ [], (κ₁, (κ₂, (κ₃, tt)))) (lent l₇ δ (gathered ys), (n, rest)) tt r)))) (id⊢ 𝓤 _) $ await ! tt $ pick ! (λ r.
         split ! $
         move ! (1 ∷ []) $
-        use1 𝓛 (some (λ (zs : Lasts core.ended (ν ∷ [], (κ₁, (κ₂, (κ₃, tt)))) (lent l₇ δ (gathered ys), (n, rest))). ‵ (lasts core.ended (ν ∷ [], (κ₁, (κ₂, (κ₃, tt)))) (lent l₇ δ (gathered ys), (n, rest)) zs) ⊛ raw (fact 𝓤 (Said (readFrom (gathered ys) 0 n) r zs.1.1.1.1.1.1.0)))) (id⊢ 𝓤 _) $ pick ! (λ zs.
+        use1 𝓛 (some (λ (zs : Lasts core.ended (ν ∷ [], (κ₁, (κ₂, (κ₃, tt)))) (lent l₇ δ (gathered ys), (n, rest))). ‵ (lasts core.ended (ν ∷ [], (κ₁, (κ₂, (κ₃, tt)))) (lent l₇ δ (gathered ys), (n, rest)) zs) ⊛ raw (fact 𝓤 (Said (read_from (gathered ys) 0 n) r zs.1.1.1.1.1.1.0)))) (id⊢ 𝓤 _) $ pick ! (λ zs.
         split ! $
         move ! (1 ∷ []) $
-        heard ! (Said (readFrom (gathered ys) 0 n) r zs.1.1.1.1.1.1.0) (λ said.
+        heard ! (Said (read_from (gathered ys) 0 n) r zs.1.1.1.1.1.1.0) (λ said.
         fsplit ! $
         drop ! $
         fsplit ! $
