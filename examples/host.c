@@ -15,7 +15,6 @@ static const uint64_t slice[] = {TJ_SLICE, 0, 0, TJ_CHAR8, 0, 0};
 static const uint64_t slice_pointer[] = {TJ_SLICE_POINTER, 0, 0, TJ_CHAR8, 0, 0};
 static const uint64_t array[] = {TJ_ARRAY, 0, 3, TJ_CHAR8, 0, 0};
 static const uint64_t arraylike[] = {TJ_ARRAYLIKE, 0, 0, TJ_CHAR8, 0, 0};
-static const uint64_t pointer[] = {TJ_POINTER, 0, 0, TJ_ARRAY, 0, 3, TJ_CHAR8, 0, 0};
 static const uint64_t view[] = {TJ_VIEW, 0, 0, TJ_POINTER, 0, 0, TJ_INT32, 0, 0};
 static const uint64_t int32[] = {TJ_INT32, 0, 0};
 static const uint64_t char8[] = {TJ_CHAR8, 0, 0};
@@ -109,11 +108,11 @@ static const char *is(const uint64_t *a, size_t na, const uint64_t *b, size_t nb
 
 /* A plan for a plain read, and what its caller looks at. */
 static void plan(const char *what, const uint64_t *known, size_t nknown, const uint64_t *asked, size_t nasked,
-                 const uint64_t *wanted, size_t nwanted, uint64_t rounds)
+                 const uint64_t *wanted, size_t nwanted)
 {
     uint64_t steps[TJ_PLAN_WORDS], reported[TJ_TYPE_WORDS], walked[TJ_TYPE_WORDS];
-    tj_plan p = tj_autoderef(known, nknown, asked, nasked, wanted, nwanted, 0, rounds, WORDS(table), WORDS(store),
-                             WORDS(steps), WORDS(reported));
+    tj_plan p = tj_autoderef(known, nknown, asked, nasked, wanted, nwanted, 0, TJ_MOST_ROUNDS, WORDS(table),
+                             WORDS(store), WORDS(steps), WORDS(reported));
     tj_answer w = {p.refusal, p.value};
     if (p.refusal == TJ_ACCEPTED)
         w = tj_walk(known, nknown, steps, 4 * p.steps, p.address, WORDS(table), WORDS(store), WORDS(walked));
@@ -125,6 +124,7 @@ static void plan(const char *what, const uint64_t *known, size_t nknown, const u
     say_kinds("kinds of its steps", steps, p.steps, 4);
     say_kinds("kinds of the type it reports", reported, p.layers, 3);
     say_kinds("kinds of the type the walker arrives at", walked, w.value / 3, 3);
+    printf("  asked steps taken: %" PRIu64 " of %zu\n", p.taken, nasked / 4);
     printf("  the type walked to %s the reported one\n", is(walked, w.value, reported, 3 * p.layers));
     printf("  the reported type %s the wanted one%s\n", is(reported, 3 * p.layers, wanted, nwanted),
            p.coerced ? ", and coerces into it" : "");
@@ -135,11 +135,9 @@ int main(void)
     const uint64_t element[] = {TJ_ELEMENT, 7, TJ_ENDLESS_UNKNOWN, 0};
     types();
     symbols();
-    plan("element 7 of slice, as Char8", WORDS(slice), WORDS(element), WORDS(char8), TJ_MOST_ROUNDS);
-    plan("view, as Int32: the exception", WORDS(view), element, 0, WORDS(int32), TJ_MOST_ROUNDS);
-    plan("array, as Int32: it leads elsewhere", WORDS(array), element, 0, WORDS(int32), TJ_MOST_ROUNDS);
-    plan("array, as slice", WORDS(array), element, 0, WORDS(slice), TJ_MOST_ROUNDS);
-    plan("element 7 behind pointer, as Char8", WORDS(pointer), WORDS(element), WORDS(char8), TJ_MOST_ROUNDS);
-    plan("the same in one round: the index would be missing", WORDS(pointer), WORDS(element), WORDS(char8), 1);
+    plan("element 7 of slice, as Char8", WORDS(slice), WORDS(element), WORDS(char8));
+    plan("view, as Int32: the exception", WORDS(view), element, 0, WORDS(int32));
+    plan("array, as Int32: it leads elsewhere", WORDS(array), element, 0, WORDS(int32));
+    plan("array, as slice", WORDS(array), element, 0, WORDS(slice));
     return 0;
 }

@@ -100,19 +100,20 @@ fn coerces(a: &[u64], b: &[u64]) -> Result<Coercion, (u64, u64)> {
 struct Made {
     steps: Vec<u64>,
     address: bool,
+    taken: u64,
     reported: Vec<u64>,
     coerced: bool,
 }
 
 // A plan for a plain read, with a table of no records.
-fn plan(known: &[u64], asked: &[u64], wanted: &[u64], rounds: u64) -> Result<Made, (u64, u64)> {
+fn plan(known: &[u64], asked: &[u64], wanted: &[u64]) -> Result<Made, (u64, u64)> {
     let (table, store): ([Symbol; 0], [u64; 0]) = ([], []);
     let (mut steps, mut reported) = (vec![0; TJ_PLAN_WORDS], vec![0; TJ_TYPE_WORDS]);
     #[rustfmt::skip]
     let p = unsafe {
         tj_autoderef(
             known.as_ptr(), known.len(), asked.as_ptr(), asked.len(), wanted.as_ptr(), wanted.len(), 0,
-            rounds, table.as_ptr(), 0, store.as_ptr(), 0, steps.as_mut_ptr(), steps.len(),
+            TJ_MOST_ROUNDS, table.as_ptr(), 0, store.as_ptr(), 0, steps.as_mut_ptr(), steps.len(),
             reported.as_mut_ptr(), reported.len(),
         )
     };
@@ -121,7 +122,7 @@ fn plan(known: &[u64], asked: &[u64], wanted: &[u64], rounds: u64) -> Result<Mad
     }
     steps.truncate(4 * p.steps as usize);
     reported.truncate(3 * p.layers as usize);
-    Ok(Made { steps, address: p.address, reported, coerced: p.coerced })
+    Ok(Made { steps, address: p.address, taken: p.taken, reported, coerced: p.coerced })
 }
 
 // Where a plan's steps lead from the known type.
@@ -143,11 +144,11 @@ fn walk(known: &[u64], made: &Made) -> Result<Vec<u64>, (u64, u64)> {
 }
 
 // Makes a plan, walks it, and compares the three types.
-fn read(what: &str, known: &[u64], asked: &[u64], wanted: &[u64], rounds: u64) -> Result<(), (u64, u64)> {
-    let made = plan(known, asked, wanted, rounds)?;
+fn read(what: &str, known: &[u64], asked: &[u64], wanted: &[u64]) -> Result<(), (u64, u64)> {
+    let made = plan(known, asked, wanted)?;
     let walked = walk(known, &made)?;
     println!("{what}");
-    println!("  steps {:?}", made.steps.chunks(4).collect::<Vec<_>>());
+    println!("  steps {:?}, asked steps taken {}", made.steps.chunks(4).collect::<Vec<_>>(), made.taken);
     println!("  reported {:?}, as wanted: {}, coerced: {}", made.reported, made.reported == wanted, made.coerced);
     println!("  walked to {:?}, as reported: {}", walked, walked == made.reported);
     Ok(())
@@ -169,13 +170,10 @@ fn main() {
     let int32 = [TJ_INT32, 0, 0];
     let hidden = [TJ_VIEW, 0, 0, TJ_POINTER, 0, 0, TJ_INT32, 0, 0];
     let element = [TJ_ELEMENT, 7, TJ_ENDLESS_UNKNOWN, 0];
-    let behind = [TJ_POINTER, 0, 0, TJ_ARRAY, 0, 5, TJ_INT32, 0, 0];
     let plans = [
-        read("channel 7 as Int32", &channels, &element, &int32, TJ_MOST_ROUNDS),
-        read("a view of a pointer as Int32: the exception", &hidden, &[], &int32, TJ_MOST_ROUNDS),
-        read("coefficient 7 behind a pointer", &behind, &element, &int32, TJ_MOST_ROUNDS),
-        read("the same in one round: the index would be missing", &behind, &element, &int32, 1),
-        read("cut off as Int32", &cut_off, &[], &int32, TJ_MOST_ROUNDS),
+        read("channel 7 as Int32", &channels, &element, &int32),
+        read("a view of a pointer as Int32: the exception", &hidden, &[], &int32),
+        read("cut off as Int32", &cut_off, &[], &int32),
     ];
     println!("refused, number and place: {:?}", plans.iter().filter_map(|p| p.err()).collect::<Vec<_>>());
 }

@@ -12,8 +12,6 @@ bool placed(uint64_t refusal, uint64_t place)
         return place < MOST_WORDS / 3;
     case TJ_NO_STEP_FITS:
         return place < TJ_MOST_WALKED;
-    case TJ_STEPS_LEFT:
-        return place < TJ_MOST_ASKED;
     default:
         return refusal < REFUSALS && place == 0;
     }

@@ -162,22 +162,19 @@ size_t some_steps(uint64_t *s, size_t most)
     return once_in(64) ? below(4 * count + 1) : 4 * count;
 }
 
-/* Any steps, or none, or some that fit along the known type behind its Pointers and Views. */
+/* Any steps, or none, or one that fits where the known type stands behind its Pointers and Views. */
 size_t steps_along(uint64_t *s, size_t most, const uint64_t *known, size_t n)
 {
-    if (once_in(3))
+    size_t at = 0;
+    while (at + 3 <= n && (known[at] == POINTER || known[at] == VIEW))
+        at += 3;
+    if (at + 3 > n || once_in(3))
         return some_steps(s, most);
-    size_t count = 0, wanted = once_in(2) ? 0 : once_in(2) ? 1 : below(16);
-    for (size_t at = 0; at + 3 <= n && count < wanted; at += 3) {
-        if (known[at] == POINTER || known[at] == VIEW)
-            continue;
-        bool member = known[at] == STRUCT || known[at] == WORD;
-        uint64_t *step = s + 4 * count++;
-        step[0] = member;
-        step[1] = member ? below(6) : some_id();
-        step[2] = step[3] = 0;
-    }
-    return 4 * count;
+    bool member = known[at] == STRUCT || known[at] == WORD;
+    s[0] = member;
+    s[1] = member ? below(6) : some_id();
+    s[2] = s[3] = 0;
+    return once_in(2) ? 4 : 0;
 }
 
 static void record(tj_symbol *r, uint64_t *part, uint32_t id)

@@ -4,8 +4,8 @@
 #define STRENGTH_H
 #include "trestlejay.h"
 
-/* The refusals' numbers go up to 18. */
-enum { MOST_WORDS = 48, PART = 48, REFUSALS = TJ_STEPS_LEFT + 1 };
+/* Document 01's numbers go up to 17. */
+enum { MOST_WORDS = 48, PART = 48, REFUSALS = 18 };
 
 /* random.c: the same numbers for the same seed. */
 void seed(uint64_t value);
@@ -52,7 +52,7 @@ extern const size_t operation_count;
 extern const export planning[];
 extern const size_t planning_count;
 
-/* What every refusal must be: a number of the documents, with a place that it may have. */
+/* What every refusal must be: a number of document 01, with a place that it may have. */
 bool placed(uint64_t refusal, uint64_t place);
 
 /* What every answer must be: at most this, or a refusal, and then everything lent is kept. */

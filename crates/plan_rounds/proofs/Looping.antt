@@ -3,7 +3,7 @@
 use mathlib.Core.Path.{◌≡◌, refl, sym, ap, ◌∙◌}
 use mathlib.Core.List.{List}
 use mathlib.Core.Logic.{◌⊎◌}
-use Prim.Native.Nat.{ℕ, ◌+◌, ◌*◌, ◌/◌, ◌≤◌, ◌<◌}
+use Prim.Native.Nat.{ℕ, ◌+◌, ◌*◌, ◌≤◌, ◌<◌}
 use native.Mathlib.Omega.{arith}
 use lib.ListN.{length, take, drop, replicate, length-replicate}
 use mir.Syntax.{w64}
@@ -11,21 +11,19 @@ use mir.Val.{Fits}
 use Rattle.type_layers.specs.Layers.{layers}
 use Rattle.type_layers.specs.AsCoded.{Whole}
 use Rattle.type_layers.specs.Answer.{Answer, refused}
-use Rattle.plan_steps.specs.Steps.{steps}
 use Rattle.plan_steps.specs.AsCoded.{step_at}
 use Rattle.plan_turn.specs.Turn.{Turn}
 use Rattle.plan_report.specs.declared.report.Report.{Report}
 use Rattle.plan_report.specs.Plan.{Plan}
 use Rattle.plan_report.specs.Report.{not_given, told, steps_over, type_over}
 use Rattle.plan_report.proofs.Delivering as outcome
-use Rattle.symbol_members.specs.Members.{of_layers}
-use Rattle.plan_rounds.specs.Rounds.{ended, steps_of, taken_by, turn_at, in_rounds}
+use Rattle.plan_rounds.specs.Rounds.{steps_of, taken_by, turn_at}
 use Rattle.plan_rounds.specs.AsCoded.{onto, AllWhole, finished, plan_in_rounds}
 use Rattle.plan_rounds.proofs.Refusing.{refusal}
 use Rattle.plan_rounds.proofs.Pushing.{Pushed}
 use Rattle.plan_rounds.proofs.Reading.{onto-whole}
 use Rattle.plan_rounds.proofs.Turning.{So, start, ends, stops, turns, steps-few, took-few}
-use Rattle.plan_rounds.proofs.Outcomes.{rounds-refused, rounds-left, rounds-ended}
+use Rattle.plan_rounds.proofs.Outcomes.{rounds-refused, rounds-ended}
 
 -- the rounds from the start are the steps so far before the rounds from here; and the bounds
 pub record Along (member : ℕ → List ℕ) (rounds : ℕ) (known asked buf cur rest : List ℕ) (i n taken : ℕ) : Type 0 where
@@ -75,39 +73,20 @@ module _ (member : ℕ → List ℕ) (rounds : ℕ) (known asked buf cur rest : 
 
     -- left: by the rounds, or by the asked steps
     module _ (out : (rounds ≤ i) ⊎ (length rest < 4)) where
-      ended_so : in_rounds (λ id. of_layers (layers (member id))) rounds (layers known) (steps asked) ≡ ended (steps (take (4 * n) buf)) taken (layers cur)
-      ended_so = ends member rounds known asked buf cur rest i n taken a.so out
+      abbrev end : Answer Plan
+      end = finished (take (4 * n) buf) taken (layers cur) (layers target) level room wide
 
-      -- with asked steps untaken
-      module _ (left : taken < length asked / 4) where
-        untaken : whole-plan ≡ refused 18 taken
-        untaken = rounds-left member known asked target level rounds room wide (take (4 * n) buf) taken (layers cur) ended_so left
+      same : end ≡ whole-plan
+      same = sym (rounds-ended member known asked target level rounds room wide (take (4 * n) buf) taken (layers cur) (ends member rounds known asked buf cur rest i n taken a.so out))
 
-        pub told-left : (r : Report) → r ≡ not_given 18 taken → r ≡ told whole-plan
-        told-left r q = outcome.told-refused 18 taken _ untaken r q
+      pub told-end : (r : Report) → r ≡ told end → r ≡ told whole-plan
+      told-end r q = q ∙ ap told same
 
-        pub steps-left : (s : List ℕ) → s ≡ steps_over whole-plan s
-        steps-left s = outcome.steps-stay 18 taken _ untaken s
+      pub steps-end : (s after : List ℕ) → after ≡ steps_over end s → after ≡ steps_over whole-plan s
+      steps-end s after q = q ∙ ap (λ (p : Answer Plan). steps_over p s) same
 
-        pub type-left : (s : List ℕ) → s ≡ type_over whole-plan s
-        type-left s = outcome.type-stays 18 taken _ untaken s
-
-      -- with all of them taken
-      module _ (all : length asked / 4 ≤ taken) where
-        abbrev end : Answer Plan
-        end = finished (take (4 * n) buf) taken (layers cur) (layers target) level room wide
-
-        same : end ≡ whole-plan
-        same = sym (rounds-ended member known asked target level rounds room wide (take (4 * n) buf) taken (layers cur) ended_so all)
-
-        pub told-end : (r : Report) → r ≡ told end → r ≡ told whole-plan
-        told-end r q = q ∙ ap told same
-
-        pub steps-end : (s after : List ℕ) → after ≡ steps_over end s → after ≡ steps_over whole-plan s
-        steps-end s after q = q ∙ ap (λ (p : Answer Plan). steps_over p s) same
-
-        pub type-end : (s after : List ℕ) → after ≡ type_over end s → after ≡ type_over whole-plan s
-        type-end s after q = q ∙ ap (λ (p : Answer Plan). type_over p s) same
+      pub type-end : (s after : List ℕ) → after ≡ type_over end s → after ≡ type_over whole-plan s
+      type-end s after q = q ∙ ap (λ (p : Answer Plan). type_over p s) same
 
   -- one round
   module _ (lt : i < rounds) (more : 4 ≤ length rest) (t : Turn) (is : t ≡ turn_at (layers cur) (step_at rest)) (next : List ℕ)

@@ -2,13 +2,10 @@
 -- Assumes nothing.
 use mathlib.Core.Path.{◌≡◌, refl}
 use mathlib.Core.List.{List}
-use Prim.Native.Nat.{ℕ, ◌/◌, ◌≤◌, ◌<◌}
-use lib.ListN.{length}
-use borrow.Author.Tests.{lt-ltb, le-ltb}
+use Prim.Native.Nat.{ℕ}
 use Rattle.type_layers.specs.Layers.{Layer, layers}
 use Rattle.type_layers.specs.Answer.{refused}
 use Rattle.plan_steps.specs.Steps.{steps}
-use Rattle.plan_steps.proofs.Words.{steps-length}
 use Rattle.symbol_members.specs.Members.{of_layers}
 use Rattle.plan_rounds.specs.Rounds.{ended, stopped, in_rounds}
 use Rattle.plan_report.specs.Report.{delivered}
@@ -20,11 +17,7 @@ module _ (member : ℕ → List ℕ) (known asked target : List ℕ) (level roun
   unfolding plan_in_rounds delivered
   rounds-refused room wide e w = rw w refl
 
-  module _ (room wide : ℕ) (ws : List ℕ) (k : ℕ) (c : List Layer) (w : in_rounds (λ id. of_layers (layers (member id))) rounds (layers known) (steps asked) ≡ ended (steps ws) k c) where
-    pub rounds-left : k < length asked / 4 → plan_in_rounds member known asked target level rounds room wide ≡ refused 18 k
-    unfolding plan_in_rounds delivered
-    rounds-left h = rw (w, steps-length asked, lt-ltb k (length asked / 4) h) refl
-
-    pub rounds-ended : length asked / 4 ≤ k → plan_in_rounds member known asked target level rounds room wide ≡ finished ws k c (layers target) level room wide
-    unfolding plan_in_rounds finished
-    rounds-ended h = rw (w, steps-length asked, le-ltb k (length asked / 4) h) refl
+  pub rounds-ended : (room wide : ℕ) (ws : List ℕ) (k : ℕ) (c : List Layer) → in_rounds (λ id. of_layers (layers (member id))) rounds (layers known) (steps asked) ≡ ended (steps ws) k c →
+      plan_in_rounds member known asked target level rounds room wide ≡ finished ws k c (layers target) level room wide
+  unfolding plan_in_rounds finished
+  rounds-ended room wide ws k c w = rw w refl

@@ -60,7 +60,7 @@ module _ (stored : ℕ → Stored) where
   prepend-none (ended us m c) = rw zero-add
   prepend-none (stopped n) = refl
 
-  pub rounds-none : (n : ℕ) (t : List Layer) (q : List Step) → q ≡ [] → in_rounds stored n t q ≡ ended [] 0 t
+  rounds-none : (n : ℕ) (t : List Layer) (q : List Step) → q ≡ [] → in_rounds stored n t q ≡ ended [] 0 t
   unfolding in_rounds
   rounds-none zero t q e = refl
   rounds-none (suc n) t q e = rw e refl
@@ -69,7 +69,7 @@ module _ (stored : ℕ → Stored) where
   unfolding in_rounds
   rounds-out t q = refl
 
-  pub rounds-more : (n : ℕ) (t : List Layer) (a : Step) (q : List Step) (u : List Layer) → goes stored t a (turn_at t a) ≡ given u →
+  rounds-more : (n : ℕ) (t : List Layer) (a : Step) (q : List Step) (u : List Layer) → goes stored t a (turn_at t a) ≡ given u →
       in_rounds stored (suc n) t (a ∷ q) ≡ prepend stored (steps_of a (turn_at t a)) (taken_by (turn_at t a)) (in_rounds stored n u (drop (taken_by (turn_at t a)) (a ∷ q)))
   unfolding in_rounds
   rounds-more n t a q u g = rw g refl

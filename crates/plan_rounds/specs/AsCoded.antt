@@ -1,5 +1,5 @@
 -- No rule, but what contracts of the code need: the rounds on words, as the loop takes them.
-use Rattle.std.specs.Prelude.{cond, List, ℕ, eqb, length}
+use Rattle.std.specs.Prelude.{cond, List, ℕ, eqb}
 use Rattle.type_layers.specs.Layers.{inner_words, Layer, layers}
 use Rattle.plan_turn.specs.Turn.{Turn, Stuck, Auto, Element, Desliced, Member}
 use Rattle.type_layers.specs.AsCoded.{Whole}
@@ -31,5 +31,4 @@ AllWhole member = (id : ℕ) → Whole (member id)
 -- The plan of the rounds from the known type along the asked steps; `member` has the words of a member's type.
 unfoldable pub plan_in_rounds : (ℕ → List ℕ) → List ℕ → List ℕ → List ℕ → ℕ → ℕ → ℕ → ℕ → Answer Plan
 plan_in_rounds member known asked target level rounds room wide =
-    delivered room wide
-    (settle_rounds (length (steps asked)) (in_rounds (λ id. of_layers (layers (member id))) rounds (layers known) (steps asked)) (layers target) level)
+    delivered room wide (settle_rounds (in_rounds (λ id. of_layers (layers (member id))) rounds (layers known) (steps asked)) (layers target) level)

@@ -58,8 +58,7 @@ module _ (stored : ℕ → Stored) where
   onward ss k nothing f = stopped refusal.no_step_fits
   onward ss k (refused n p) f = stopped n
 
-  -- "Rounds used up: remaining asked steps are dropped and the count taken is reported.": by request b they are not dropped but
-  -- refused, and the count is the place (`unless_left`, Settled.antt).
+  -- "Rounds used up: remaining asked steps are dropped and the count taken is reported."
   unfoldable pub in_rounds : ℕ → List Layer → List Step → Rounds
   in_rounds zero t q = ended [] 0 t
   in_rounds (suc n) t [] = ended [] 0 t

@@ -27,8 +27,7 @@ fn after(q: &[u64], k: usize) -> &[u64]
 }
 
 // Goes from the known type along the asked steps, at most so many rounds, and stops as soon as no asked step is left;
-// where some are left untaken it refuses, else it settles. The run has room for all the steps: 64 rounds add at most two
-// each, and the settling at most 16.
+// then settles. The run has room for all the steps: 64 rounds add at most two each, and the settling at most 16.
 pub fn plan_in_rounds<'a>(
     flat: &Columns,
     count: usize,
@@ -83,9 +82,6 @@ pub fn plan_in_rounds<'a>(
         cur = next;
         let left = after(rest, k);
         rest = left;
-    }
-    if taken < asked.len() / 4 {
-        return refuse(Refusal::STEPS_LEFT, taken as u64);
     }
     finish(cur, target, level, n, taken as u64, &mut buf, steps, ty)
 }

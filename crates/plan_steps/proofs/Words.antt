@@ -3,7 +3,7 @@
 use mathlib.Core.Path.{◌≡◌, refl, sym, ap, ◌∙◌}
 use mathlib.Core.Bool.{Bool, true, false, cond, ◌&&◌}
 use mathlib.Core.List.{List, [], ◌∷◌, ◌++◌}
-use Prim.Native.Nat.{ℕ, suc, ◌+◌, ◌*◌, ◌-◌, ◌/◌, ◌%◌, ◌≤◌, ◌<◌}
+use Prim.Native.Nat.{ℕ, suc, ◌+◌, ◌*◌, ◌-◌, ◌%◌, ◌≤◌, ◌<◌}
 use native.Mathlib.Omega.{arith}
 use lib.Dec.{leb}
 use lib.ListN.{length, take, drop, set, length-append, length-take, length-drop}
@@ -27,14 +27,6 @@ steps-more (k ∷ []) h = absurd (omega arith)
 steps-more (k ∷ j ∷ []) h = absurd (omega arith)
 steps-more (k ∷ j ∷ m ∷ []) h = absurd (omega arith)
 steps-more (k ∷ j ∷ m ∷ n ∷ q) h = refl
-
-pub steps-length : (q : List ℕ) → length (steps q) ≡ length q / 4
-unfolding steps
-steps-length [] = refl
-steps-length (k ∷ []) = refl
-steps-length (k ∷ j ∷ []) = refl
-steps-length (k ∷ j ∷ m ∷ []) = refl
-steps-length (k ∷ j ∷ m ∷ n ∷ q) = omega (arith, steps-length q)
 
 -- the words of steps
 pub words-length : (ss : List Step) → length (step_words ss) ≡ 4 * length ss

@@ -50,7 +50,7 @@ module _ (table : List Symbol) (store known asked target : List ℕ) (depth limi
   ok : Given table store known asked target depth limit (length b) (length c) plan
   ok = is-given table store known asked target depth limit r b b' c c' h z
 
-  meets : Demand stored (layers known) (steps asked) (layers target) depth plan
+  meets : Demand stored (layers known) (steps asked) (layers target) depth limit plan
   meets = demand-carried table store known asked target depth limit r b b' c c' h z
 
   on-view : (x : exception) → arrives stored plan.steps plan.address (layers known) ≡ at x.holds.c

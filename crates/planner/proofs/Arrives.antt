@@ -8,7 +8,6 @@ use Prim.Native.Nat.{ℕ, ◌+◌, ◌≤◌}
 use native.Mathlib.Omega.{arith}
 use lib.Dec.{eqb}
 use lib.ListN.{length, length-append}
-use lib.Seq.{take-length}
 use borrow.Author.Tests.{eqb-true}
 use Rattle.type_numbers.specs.Kind as kind
 use Rattle.type_layers.specs.Layers.{Layer, outer, inside}
@@ -30,16 +29,16 @@ use Rattle.plan_rounds.specs.Rounds.{ended, in_rounds}
 use Rattle.plan_rounds.proofs.Finishing.{depth-few}
 use Rattle.plan_report.specs.Plan.{Plan}
 use Rattle.planner.specs.Plans.{plan_of}
-use Rattle.planner.specs.Demand.{of_rounds, Exception, Hidden, Demand}
+use Rattle.planner.specs.Demand.{Exception, Hidden, Demand}
 use Rattle.planner.specs.Reported.{Reported}
-use Rattle.planner.proofs.Rounds.{asked-append, walker-append, walks, in_order, ends_there, no_more, all-good, few-steps}
+use Rattle.planner.proofs.Rounds.{asked-append, walker-append, walks, in_order, all-taken, no_longer, no_more, all-good, few-steps}
 use Rattle.planner.proofs.Sound.{Passing, Sound, rounds-sound}
 use Rattle.planner.proofs.Settles.{Unstepped, exact, settles, must-hide, asks_nothing, adds-good, adds-few}
 use Rattle.planner.proofs.Plans.{planned, every-plan}
 
 module _ (stored : ℕ → Stored) (members : (id : ℕ) (t : List Layer) → stored id ≡ typed t → Passing t)
     (known : List Layer) (passing : Passing known) (q : List Step) (good : good_steps q ≡ true) (target : List Layer) (depth limit : ℕ) where
-  module _ (formed : well_formed known ≡ true) (ss : List Step) (k : ℕ) (c : List Layer) (e : in_rounds stored limit known q ≡ ended ss k c) (all : length q ≤ k) where
+  module _ (formed : well_formed known ≡ true) (ss : List Step) (k : ℕ) (c : List Layer) (e : in_rounds stored limit known q ≡ ended ss k c) where
     sound : Sound c
     sound = rounds-sound stored members limit known q ss k c e (record { formed = formed; passing = passing })
 
@@ -55,20 +54,22 @@ module _ (stored : ℕ → Stored) (members : (id : ℕ) (t : List Layer) → st
         plain = rw x.is;
       }
 
-      -- the rounds end on one type, with the last asked step
-      excepted : Exception stored known target depth (of_rounds (ss ++ s.steps) q) → Hidden stored known target depth (planned ss k s)
+      -- the rounds end on one type
+      excepted : Exception stored known target depth ss → Hidden stored known target depth (planned ss k s)
       excepted x =
-          let ends : walker stored ss known ≡ at x.c = rw (ends_there stored limit known q ss k c e all s.steps) at x.ends in
-          let is : x.c ≡ c = at-is x.c c (sym ends ∙ walks stored limit known q ss k c e) in
+          let is : x.c ≡ c = at-is x.c c (sym x.ends ∙ walks stored limit known q ss k c e) in
           hidden (must-hide stored c target depth sound s f x.level (rw is at x.view) (rw is at x.last))
 
-      taken : k ≡ length q
-      taken = omega (arith, all, no_more stored limit known q ss k c e)
-
-      meets : Demand stored known q target depth (planned ss k s)
+      meets : Demand stored known q target depth limit (planned ss k s)
       meets = record {
-        order = asked-append ss s.steps ∙ rw (in_order stored limit known q ss k c e, asks_nothing c target depth s f, append-nil, taken, take-length);
-        all = taken;
+        order = asked-append ss s.steps ∙ rw (in_order stored limit known q ss k c e, asks_nothing c target depth s f, append-nil);
+        few = no_more stored limit known q ss k c e;
+        of_rounds = ss;
+        further = s.steps;
+        parts = refl;
+        unasked = asks_nothing c target depth s f;
+        within = no_longer stored limit known q ss k c e;
+        all = all-taken stored limit known q ss k c e;
         good = good-append ss s.steps ∙ rw (all-good stored limit known q ss k c e good, adds-good c target depth s f) refl;
         there =
             ⊎_elim (λ l. inl (along s.steps s.address ∙ l)) (λ x. inr (hidden x)) (settles stored c target depth sound s f);
@@ -92,19 +93,19 @@ module _ (stored : ℕ → Stored) (members : (id : ℕ) (t : List Layer) → st
           omega (arith, length-append ss s.steps, few-steps stored limit known q ss k c e, no_more stored limit known q ss k c e, adds-few c target depth s f, depth-few c, sound.passing.few)
 
   -- THE THEOREM
-  pub demand : (plan : Plan) → plan_of stored known q target depth limit ≡ given plan → Demand stored known q target depth plan
-  demand = every-plan stored known q target depth limit (Demand stored known q target depth) (λ formed _ ss k c e all s f w. meets formed ss k c e all s f)
+  pub demand : (plan : Plan) → plan_of stored known q target depth limit ≡ given plan → Demand stored known q target depth limit plan
+  demand = every-plan stored known q target depth limit (Demand stored known q target depth limit) (λ formed ss k c e s f w. meets formed ss k c e s f)
 
   pub few-in-all : (plan : Plan) → plan_of stored known q target depth limit ≡ given plan → length plan.steps ≤ limit + length q + 17
   few-in-all =
-      every-plan stored known q target depth limit (λ plan. length plan.steps ≤ limit + length q + 17) (λ formed _ ss k c e all s f w. short formed ss k c e all s f)
+      every-plan stored known q target depth limit (λ plan. length plan.steps ≤ limit + length q + 17) (λ formed ss k c e s f w. short formed ss k c e s f)
 
   -- the walker arrives at a type of at most 16 layers, also where the exception holds
   pub arrives-few : (plan : Plan) → plan_of stored known q target depth limit ≡ given plan →
       (u : List Layer) → arrives stored plan.steps plan.address known ≡ at u → length u ≤ 16
   arrives-few =
       every-plan stored known q target depth limit (λ plan. (u : List Layer) → arrives stored plan.steps plan.address known ≡ at u → length u ≤ 16)
-      (λ formed _ ss k c e all s f w. narrow formed ss k c e all s f w)
+      (λ formed ss k c e s f w. narrow formed ss k c e s f w)
 
 -- what is reported
 module _ (target : List Layer) (good : good_layers target ≡ true) where
@@ -127,4 +128,4 @@ module _ (target : List Layer) (good : good_layers target ≡ true) where
     pub reported : (plan : Plan) → plan_of stored known q target depth limit ≡ given plan → Reported stored known target depth plan
     reported =
         every-plan stored known q target depth limit (Reported stored known target depth)
-        (λ formed _ ss k c e all s f w. reports ss k c (walks stored limit known q ss k c e) s f)
+        (λ formed ss k c e s f w. reports ss k c (walks stored limit known q ss k c e) s f)

@@ -247,7 +247,7 @@ module _ (table : List Symbol) (store known asked target : List ℕ) (depth limi
     is-given = subst (Given (length b) (length c)) (sym read) behind
 
     -- THE THEOREM: where the report has no refusal, the plan that stands in it and in the outputs meets the third demand.
-    pub demand-carried : Demand stored (layers known) (steps asked) (layers target) depth (plan_read r b' c')
+    pub demand-carried : Demand stored (layers known) (steps asked) (layers target) depth limit (plan_read r b' c')
     demand-carried =
         demand stored (λ id. members-pass table store id is-given.order) (layers known) (known-passing is-given) (steps asked) is-given.asked-good
         (layers target) depth limit (plan_read r b' c') is-given.plan
@@ -276,7 +276,7 @@ module _ {M : Type 1} {𝓤 : Ura M} (𝓛 : Logic 𝓤) (mem : Memory → SProp
       (λ r s.
       let steps_after = s.1.1.1.1.1.1.1.0.now in
       let type_after = s.1.1.1.1.1.1.1.1.0.now in
-      r.refusal ≡ 0 → Demand (members table store) (layers known) (steps asked) (layers target) level (plan_read r steps_after type_after))
+      r.refusal ≡ 0 → Demand (members table store) (layers known) (steps asked) (layers target) level limit (plan_read r steps_after type_after))
   autoderef-demand κs a = (
     _,
     (

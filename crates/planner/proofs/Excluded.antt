@@ -3,12 +3,14 @@
 -- is what refutes some plan, so that none can be left out without this file failing.
 -- Assumes nothing.
 use mathlib.Core.Path.{◌≡◌, refl, sym, ap, ◌∙◌}
-use mathlib.Core.Bool.{Bool, true, false, true≢false, false≢true}
+use mathlib.Core.Bool.{Bool, true, false, cond, true≢false, false≢true}
 use mathlib.Core.Logic.{⊎_elim}
-use mathlib.Core.List.{List, [], ◌∷◌, ◌++◌}
-use Prim.Native.Nat.{ℕ, ◌+◌}
+use mathlib.Core.List.{List, [], ◌∷◌, ◌++◌, append-nil}
+use Prim.Native.Nat.{ℕ, ◌+◌, ◌≤◌}
 use native.Mathlib.Omega.{arith}
+use lib.Dec.{eqb, leb}
 use lib.ListN.{length, drop, length-drop}
+use borrow.Author.Tests.{eqb-true, leb-true}
 use Rattle.type_numbers.specs.Kind as kind
 use Rattle.type_layers.specs.Layers.{Layer, layer, outer, inside}
 use Rattle.type_layers.specs.Answer.{given}
@@ -27,8 +29,9 @@ use Rattle.symbol_members.specs.Member.{Stored, typed, absent}
 use Rattle.walker_rule.specs.Walker.{Where, at, stuck, act, walker, arrives}
 use Rattle.walker_rule.proofs.Where.{type_at}
 use Rattle.plan_report.specs.Plan.{Plan}
-use Rattle.planner.specs.Demand.{asked, of_rounds, Hidden, Demand}
+use Rattle.planner.specs.Demand.{unmarked, asked, rounds, Hidden, Demand}
 use Rattle.planner.specs.Reported.{Reported}
+use Rattle.planner.proofs.Rounds.{asked-append}
 use Rattle.planner.proofs.Table.{leaf, of, int32, array3, asked-element}
 
 -- no table
@@ -71,55 +74,66 @@ none_before : (ss us : List Step) → [] ≡ ss ++ us → ss ≡ []
 none_before [] us e = refl
 none_before (s ∷ ss) us e = absurd (omega (arith, ap length e))
 
--- Array 3 of Int32, one Element: a plan without steps that took none of one and reports the Array
-pub dropped : Demand none array3 (asked-element 7 ∷ []) int32 0 (plan [] 0 array3 false) → ⊥
-dropped d = absurd (omega (arith, d.all))
+-- Array 3 of Int32, one Element, one round: a plan without steps that took none of one and reports the Array
+pub dropped : Demand none array3 (asked-element 7 ∷ []) int32 0 1 (plan [] 0 array3 false) → ⊥
+unfolding rounds
+dropped d =
+    ⊎_elim (λ (e : 0 ≡ 1). absurd (omega (arith, e)))
+    (λ (h : rounds d.of_rounds ≡ 1). let e : 0 ≡ 1 = rw (none_before d.of_rounds d.further d.parts) at h in absurd (omega (arith, e)))
+    d.all
 
--- Pointer to Array 3 of Int32, one Element, which the Rust plans so in one round: the Element is not taken
-pub dropped-by-the-rust : Demand none (of kind.pointer array3) (asked-element 7 ∷ []) int32 0 (plan (autoderef ∷ []) 0 array3 false) → ⊥
-dropped-by-the-rust d = absurd (omega (arith, d.all))
-
--- Array 3 of Array 3 of Int32, two Elements: a plan that takes the first, and says so
-pub last-dropped : Demand none (array 3 array3) (asked-element 7 ∷ asked-element 8 ∷ []) int32 0 (plan (element 7 0 ∷ []) 1 array3 false) → ⊥
-last-dropped d = absurd (omega (arith, d.all))
-
--- the same question: a plan that takes the first, and says that it took both
-pub one-for-two : Demand none (array 3 array3) (asked-element 7 ∷ asked-element 8 ∷ []) int32 0 (plan (element 7 0 ∷ []) 2 array3 false) → ⊥
-unfolding asked
-one-for-two d = absurd (omega (arith, ap length d.order))
-
--- the same question: both Elements, the second one first
-pub out_of_order : Demand none (array 3 array3) (asked-element 7 ∷ asked-element 8 ∷ []) int32 0 (plan (element 8 0 ∷ element 7 0 ∷ []) 2 int32 false) → ⊥
-unfolding asked
-out_of_order d = absurd (omega (arith, ap first_handle d.order))
-
--- the same question: a third Element that nobody asked for
-pub one-too-many : Demand none (array 3 (array 3 array3)) (asked-element 7 ∷ asked-element 8 ∷ []) array3 0
-    (plan (element 7 0 ∷ element 8 0 ∷ element 9 0 ∷ []) 2 int32 false) → ⊥
-unfolding asked
-one-too-many d = absurd (omega (arith, ap length d.order))
-
--- the first question again: the right step, and a count that is made up
-pub made_up : Demand none array3 (asked-element 7 ∷ []) int32 0 (plan (element 7 0 ∷ []) 7 int32 false) → ⊥
-made_up d = absurd (omega (arith, d.all))
+-- the same question: the right step, and a count that is made up
+pub made_up : Demand none array3 (asked-element 7 ∷ []) int32 0 1 (plan (element 7 0 ∷ []) 7 int32 false) → ⊥
+made_up d = let h : 7 ≤ 1 = d.few in absurd (omega (arith, h))
 
 -- the same question: the Element of another argument
-pub other-element : Demand none array3 (asked-element 7 ∷ []) int32 0 (plan (element 8 0 ∷ []) 1 int32 false) → ⊥
+pub other-element : Demand none array3 (asked-element 7 ∷ []) int32 0 1 (plan (element 8 0 ∷ []) 1 int32 false) → ⊥
 unfolding asked
 other-element d = absurd (omega (arith, ap first_handle d.order))
 
 -- Struct 1, the Member 5 without an offset: the same Member with an offset that nobody asked for
-pub other_offset : Demand (λ id. typed int32) (struct1 ∷ []) (step of-step.member 5 0 0 ∷ []) int32 0 (plan (step of-step.member 5 1 8 ∷ []) 1 int32 false) → ⊥
+pub other_offset : Demand (λ id. typed int32) (struct1 ∷ []) (step of-step.member 5 0 0 ∷ []) int32 0 1 (plan (step of-step.member 5 1 8 ∷ []) 1 int32 false) → ⊥
 unfolding asked
 other_offset d = absurd (omega (arith, ap first_mark d.order))
 
+-- an asked step takes a round, so that a plan has no more asked steps than there are rounds
+asked-rounds : (ss : List Step) → length (asked ss) ≤ rounds ss
+unfolding asked rounds
+asked-rounds [] = omega arith
+asked-rounds (s ∷ ss) = by_kind (leb s.kind of-step.member) (eqb s.kind of-step.autodeslice) refl refl (asked-rounds ss)
+  where
+    by_kind : (f g : Bool) → leb s.kind of-step.member ≡ f → eqb s.kind of-step.autodeslice ≡ g → length (asked ss) ≤ rounds ss →
+        length (cond f (unmarked s ∷ asked ss) (asked ss)) ≤ cond g (rounds ss) (rounds ss + 1)
+    by_kind true true e h i = absurd (omega (arith, leb-true s.kind 1 e, eqb-true s.kind 2 h))
+    by_kind true false e h i = omega (arith, i)
+    by_kind false true e h i = i
+    by_kind false false e h i = omega (arith, i)
+
+in-time : (stored : ℕ → Stored) (known : List Layer) (q : List Step) (target : List Layer) (depth limit : ℕ) (p : Plan) →
+    Demand stored known q target depth limit p → length (asked p.steps) ≤ limit
+in-time stored known q target depth limit p d =
+    let e : asked p.steps ≡ asked d.of_rounds = ap asked d.parts ∙ asked-append d.of_rounds d.further ∙ rw (d.unasked, append-nil) refl in
+    omega (arith, ap length e, asked-rounds d.of_rounds, d.within)
+
+-- Array 3 of Array 3 of Array 3 of Int32, three Elements, one round: a plan that takes two, and drops the third for want of
+-- rounds
+pub overrun : Demand none (array 3 (array 3 array3)) (asked-element 7 ∷ asked-element 8 ∷ asked-element 9 ∷ []) int32 0 1
+    (plan (element 7 0 ∷ element 8 0 ∷ []) 2 array3 false) → ⊥
+unfolding asked
+overrun d = let h : 2 ≤ 1 = in-time _ _ _ _ _ _ _ d in absurd (omega (arith, h))
+
+-- the same of two Elements: a plan that takes both in one round
+pub limit-ignored : Demand none (array 3 array3) (asked-element 7 ∷ asked-element 8 ∷ []) int32 0 1 (plan (element 7 0 ∷ element 8 0 ∷ []) 2 int32 false) → ⊥
+unfolding asked
+limit-ignored d = let h : 2 ≤ 1 = in-time _ _ _ _ _ _ _ d in absurd (omega (arith, h))
+
 -- the first question again: an Element whose unused number is not 0
-pub unused-number : Demand none array3 (asked-element 7 ∷ []) int32 0 (plan (element 7 5 ∷ []) 1 int32 false) → ⊥
+pub unused-number : Demand none array3 (asked-element 7 ∷ []) int32 0 1 (plan (element 7 5 ∷ []) 1 int32 false) → ⊥
 unfolding good_step good_steps
 unused-number d = false≢true d.good
 
 -- Pointer to Pointer to Int32, target Int32: a planner that works its first step and then copies the reported type
-pub first-step-then-copied : Demand none (of kind.pointer (of kind.pointer int32)) [] int32 0 (plan (autoderef ∷ []) 0 int32 false) → ⊥
+pub first-step-then-copied : Demand none (of kind.pointer (of kind.pointer int32)) [] int32 0 64 (plan (autoderef ∷ []) 0 int32 false) → ⊥
 unfolding walker arrives act outer inside
 first-step-then-copied d =
     ⊎_elim (λ (e : at (of kind.pointer int32) ≡ at int32). absurd (omega (arith, ap (λ (w : Where). length (type_at w)) e)))
@@ -130,27 +144,27 @@ apart : (a b : List Layer) → (length a ≡ length b → ⊥) → at a ≡ at b
 apart a b h e = h (ap (λ (w : Where). length (type_at w)) e)
 
 -- Int32: a step that cannot be taken
-pub cannot-be-taken : Demand none int32 [] int32 0 (plan (autoderef ∷ []) 0 int32 false) → ⊥
+pub cannot-be-taken : Demand none int32 [] int32 0 64 (plan (autoderef ∷ []) 0 int32 false) → ⊥
 unfolding walker arrives act outer
 cannot-be-taken d =
     ⊎_elim (λ (e : stuck ≡ at int32). absurd (omega (arith, ap (λ (w : Where). length (type_at w)) e)))
     (λ h. absurd (omega (arith, ap (λ (w : Where). outer (type_at w)) h.holds.ends, h.holds.view))) d.there
 
 -- View of Int32, target Int32: a plan that stops one step early; line (ii) applies, so it is no exception
-pub one-step-early : Demand none (of kind.view int32) [] int32 0 (plan [] 0 int32 false) → ⊥
+pub one-step-early : Demand none (of kind.view int32) [] int32 0 64 (plan [] 0 int32 false) → ⊥
 unfolding walker arrives line_of outer inside pointer_depth identical
 one-step-early d =
     ⊎_elim (apart (of kind.view int32) int32 (λ e. absurd (omega (arith, e))))
     (λ h. false≢true (ap (λ (w : Where). is_last (line_of (type_at w) int32 0)) h.holds.ends ∙ ap is_last h.holds.last)) d.there
 
 -- the same at depth 1, where there is no exception
-pub early-at-depth-1 : Demand none (of kind.view int32) [] (of kind.pointer int32) 1 (plan [] 0 int32 false) → ⊥
+pub early-at-depth-1 : Demand none (of kind.view int32) [] (of kind.pointer int32) 1 64 (plan [] 0 int32 false) → ⊥
 unfolding walker arrives
 early-at-depth-1 d =
     ⊎_elim (apart (of kind.view int32) int32 (λ e. absurd (omega (arith, e)))) (λ h. absurd (omega (arith, h.holds.level))) d.there
 
 -- View of Pointer to Int32, target Int32, of which the exception holds: a plan that reports the Pointer
-pub half-dereferenced : Demand none (of kind.view (of kind.pointer int32)) [] int32 0 (plan [] 0 (of kind.pointer int32) false) → ⊥
+pub half-dereferenced : Demand none (of kind.view (of kind.pointer int32)) [] int32 0 64 (plan [] 0 (of kind.pointer int32) false) → ⊥
 unfolding walker arrives references
 half-dereferenced d =
     ⊎_elim (apart (of kind.view (of kind.pointer int32)) (of kind.pointer int32) (λ e. absurd (omega (arith, e))))
@@ -159,24 +173,16 @@ half-dereferenced d =
     absurd (omega (arith, e))) d.there
 
 -- the same question: a plan that reports the View itself
-pub view-as-it-is : Demand none (of kind.view (of kind.pointer int32)) [] int32 0 (plan [] 0 (of kind.view (of kind.pointer int32)) false) → ⊥
-unfolding walker of_rounds references line_of outer inside pointer_depth identical coerces address_coerces equals plain
+pub view-as-it-is : Demand none (of kind.view (of kind.pointer int32)) [] int32 0 64 (plan [] 0 (of kind.view (of kind.pointer int32)) false) → ⊥
+unfolding walker references line_of outer inside pointer_depth identical coerces address_coerces equals plain
 view-as-it-is d =
     let known : List Layer = of kind.view (of kind.pointer int32) in
-    let h = d.except (record { c = known; ends = refl; level = refl; view = refl; last = refl }) in
+    let w = none_before d.of_rounds d.further d.parts in
+    let h = d.except (record { c = known; ends = rw w refl; level = refl; view = refl; last = refl }) in
     absurd (omega (arith, ap length h.type ∙ ap (λ (w : Where). length (drop (references (type_at w)) (type_at w))) (sym h.holds.ends)))
 
--- Struct 1 with the Member 5 of that type, target Int32: a plan that takes the View and the Pointer off by steps of its own,
--- where the exception has none behind the last asked step
-pub not_hidden : Demand (λ id. typed (of kind.view (of kind.pointer int32))) (struct1 ∷ []) (step of-step.member 5 0 0 ∷ []) int32 0
-    (plan (step of-step.member 5 0 0 ∷ step of-step.autoview 0 0 0 ∷ autoderef ∷ []) 1 int32 false) → ⊥
-unfolding walker act of_rounds line_of outer inside pointer_depth identical coerces address_coerces equals plain
-not_hidden d =
-    let h = d.except (record { c = of kind.view (of kind.pointer int32); ends = refl; level = refl; view = refl; last = refl }) in
-    absurd (omega (arith, ap (λ (w : Where). outer (type_at w)) h.holds.ends, h.holds.view))
-
--- View of Pointer to Int32, target Int32: the right type, and an address that nobody takes
-pub address-in-name : Demand none (of kind.view (of kind.pointer int32)) [] int32 0 (plan [] 0 int32 true) → ⊥
+-- the same question: the right type, and an address that nobody takes
+pub address-in-name : Demand none (of kind.view (of kind.pointer int32)) [] int32 0 64 (plan [] 0 int32 true) → ⊥
 unfolding walker arrives
 address-in-name d =
     ⊎_elim (apart (of kind.pointer (of kind.view (of kind.pointer int32))) int32 (λ e. absurd (omega (arith, e))))

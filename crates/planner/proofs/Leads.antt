@@ -3,7 +3,7 @@
 -- Assumes nothing.
 use mathlib.Core.Path.{◌≡◌, refl, sym, ap, ◌∙◌}
 use mathlib.Core.Bool.{Bool, true, false, cond, ◌&&◌}
-use mathlib.Core.List.{List, ◌∷◌, ◌++◌, map}
+use mathlib.Core.List.{List, ◌∷◌, map}
 use Prim.Native.Nat.{ℕ}
 use lib.Dec.{eqb, leb}
 use lib.ListN.{take, drop}
@@ -20,7 +20,7 @@ use Rattle.symbol_members.specs.Member.{Stored, typed, absent}
 use Rattle.walker_rule.specs.Walker.{at, act, walker}
 use Rattle.plan_rounds.proofs.Going.{one_in, two_in}
 use Rattle.plan_rounds.specs.Rounds.{steps_of, taken_by, member_type, goes, turn_at}
-use Rattle.planner.specs.Demand.{asked, unmarked, of_rounds}
+use Rattle.planner.specs.Demand.{asked, unmarked, rounds}
 
 pub reached : (m : Stored) (u : List Layer) → member_type m ≡ given u → m ≡ typed u
 reached absent u g = absurd (not-given 11 0 u g)
@@ -63,13 +63,11 @@ module _ (stored : ℕ → Stored) (t : List Layer) (a : Step) where
       (λ r. goes stored t a r ≡ given u → asked (steps_of a r) ≡ map unmarked (take (taken_by r) (a ∷ q)))
       (λ g. refl) (λ e g. refl) (λ e g. refl) (λ d e f h g. rw h) (λ m w e f g. rw f) (λ e f g. rw f) (λ e f g. rw f) (λ e f g. rw f)
 
-  -- the steps of a round are read as those of the rounds, and take the asked ones that the round takes
-  pub reads : (q us : List Step) (u : List Layer) → goes stored t a (turn_at t a) ≡ given u →
-      of_rounds (steps_of a (turn_at t a) ++ us) (a ∷ q) ≡ steps_of a (turn_at t a) ++ of_rounds us (drop (taken_by (turn_at t a)) (a ∷ q))
-  unfolding of_rounds
-  reads q us u =
-      cases (outer t) (outer (inside t)) a.kind a.mark
-      (λ r. goes stored t a r ≡ given u → of_rounds (steps_of a r ++ us) (a ∷ q) ≡ steps_of a r ++ of_rounds us (drop (taken_by r) (a ∷ q)))
+  -- a round that goes on is one round
+  pub turns-once : (u : List Layer) → goes stored t a (turn_at t a) ≡ given u → rounds (steps_of a (turn_at t a)) ≡ 1
+  unfolding rounds
+  turns-once u =
+      cases (outer t) (outer (inside t)) a.kind a.mark (λ r. goes stored t a r ≡ given u → rounds (steps_of a r) ≡ 1)
       (λ g. absurd (not-given 8 0 u g)) (λ e g. refl) (λ e g. refl) (λ d e f h g. refl) (λ m w e f g. refl) (λ e f g. refl) (λ e f g. refl) (λ e f g. rw f)
 
   -- the steps of a round are steps where the asked one is

@@ -13,4 +13,3 @@ pub mod Table
 pub mod Surprises
 pub mod Excluded
 pub mod Accepts
-pub mod Left

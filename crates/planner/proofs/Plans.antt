@@ -1,5 +1,4 @@
--- What holds of all rounds from a well-formed type that take every asked step and are settled, holds of every plan that is
--- given.
+-- What holds of all rounds from a well-formed type that end and are settled, holds of every plan that is given.
 -- Assumes nothing.
 use mathlib.Core.Path.{◌≡◌, refl, subst}
 use mathlib.Core.Bool.{Bool, true, false, cond, not}
@@ -25,8 +24,8 @@ abbrev pub planned : List Step → ℕ → Settled → Plan
 planned ss k s = record { steps = ss ++ s.steps; taken = k; type = s.type; address = s.address; coerced = s.coerced }
 
 module _ (stored : ℕ → Stored) (known : List Layer) (q : List Step) (target : List Layer) (depth limit : ℕ) (P : Plan → Type 0)
-    (each : well_formed known ≡ true → well_formed target ≡ true → (ss : List Step) (k : ℕ) (c : List Layer) → in_rounds stored limit known q ≡ ended ss k c →
-    length q ≤ k → (s : Settled) → settle c target depth ≡ given s → length s.type ≤ 16 → P (planned ss k s))
+    (each : well_formed known ≡ true → (ss : List Step) (k : ℕ) (c : List Layer) → in_rounds stored limit known q ≡ ended ss k c →
+    (s : Settled) → settle c target depth ≡ given s → length s.type ≤ 16 → P (planned ss k s))
     (plan : Plan) where
   by_width : (p : Plan) (f : Bool) → ltb 16 (length p.type) ≡ f → cond f (refused 15 0) (given p) ≡ given plan → (length p.type ≤ 16 → P p) → P plan
   by_width p true e g h = absurd (not-given 15 0 plan g)
@@ -38,22 +37,16 @@ module _ (stored : ℕ → Stored) (known : List Layer) (q : List Step) (target 
   by-settling ss k nothing g h = absurd (nothing-given plan g)
   by-settling ss k (refused n p) g h = absurd (not-given n p plan g)
 
-  module _ (known-formed : well_formed known ≡ true) (target-formed : well_formed target ≡ true) where
-    by_left : (ss : List Step) (k : ℕ) (c : List Layer) → in_rounds stored limit known q ≡ ended ss k c → (f : Bool) → ltb k (length q) ≡ f →
-        cond f (refused 18 k) (with_settling ss k (settle c target depth)) ≡ given plan → P plan
-    by_left ss k c e true l g = absurd (not-given 18 k plan g)
-    by_left ss k c e false l g = by-settling ss k (settle c target depth) g (each known-formed target-formed ss k c e (ltb-false k (length q) l))
+  by-rounds : (w : Rounds) → in_rounds stored limit known q ≡ w → well_formed known ≡ true → settle_rounds w target depth ≡ given plan → P plan
+  by-rounds (ended ss k c) e f g = by-settling ss k (settle c target depth) g (each f ss k c e)
+  by-rounds (stopped n) e f g = absurd (not-given n 0 plan g)
 
-    by-rounds : (w : Rounds) → in_rounds stored limit known q ≡ w → settle_rounds (length q) w target depth ≡ given plan → P plan
-    by-rounds (ended ss k c) e g = by_left ss k c e (ltb k (length q)) refl g
-    by-rounds (stopped n) e g = absurd (not-given n 0 plan g)
-
-  by-forms : (f h : Bool) → well_formed known ≡ f → well_formed target ≡ h →
-      cond (not f) (refused 4 0) (cond (not h) (refused 4 0) (settle_rounds (length q) (in_rounds stored limit known q) target depth)) ≡ given plan → P plan
-  by-forms true true e i g = by-rounds e i (in_rounds stored limit known q) refl g
-  by-forms true false e i g = absurd (not-given 4 0 plan g)
-  by-forms false h e i g = absurd (not-given 4 0 plan g)
+  by-forms : (f h : Bool) → well_formed known ≡ f →
+      cond (not f) (refused 4 0) (cond (not h) (refused 4 0) (settle_rounds (in_rounds stored limit known q) target depth)) ≡ given plan → P plan
+  by-forms true true e g = by-rounds (in_rounds stored limit known q) refl e g
+  by-forms true false e g = absurd (not-given 4 0 plan g)
+  by-forms false h e g = absurd (not-given 4 0 plan g)
 
   pub every-plan : plan_of stored known q target depth limit ≡ given plan → P plan
   unfolding plan_of
-  every-plan g = by-forms (well_formed known) (well_formed target) refl refl g
+  every-plan g = by-forms (well_formed known) (well_formed target) refl g

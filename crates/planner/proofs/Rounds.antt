@@ -1,13 +1,14 @@
 -- What rounds that have ended tell: the walker goes their steps from the known type to the current one; the asked steps
--- among them are the first ones that were asked, in order; where those are all, the last step is the last asked one; each
--- step is one; and they are few.
+-- among them are the first ones that were asked, in order; they are all of them, or the rounds were used up; each step is
+-- one; and they are few.
 -- Assumes nothing.
 use mathlib.Core.Path.{◌≡◌, refl, sym, subst, ◌∙◌}
 use mathlib.Core.Bool.{Bool, true, false, cond}
-use mathlib.Core.List.{List, [], ◌∷◌, ◌++◌, map, append_assoc, map-append}
+use mathlib.Core.Logic.{◌⊎◌, inl, inr, ⊎_elim}
+use mathlib.Core.List.{List, [], ◌∷◌, ◌++◌, map, map-append}
 use Prim.Native.Nat.{ℕ, zero, suc, ◌+◌, ◌≤◌}
 use native.Mathlib.Omega.{arith}
-use lib.Dec.{leb}
+use lib.Dec.{eqb, leb}
 use lib.ListN.{length, take, drop, length-drop, length-append}
 use lib.Seq.{take-add}
 use Rattle.type_layers.specs.Layers.{Layer}
@@ -21,8 +22,8 @@ use Rattle.walker_rule.specs.Walker.{Where, at, stuck, act, then, walker}
 use Rattle.plan_rounds.specs.Rounds.{Rounds, ended, stopped, steps_of, taken_by, goes, turn_at, prepend, onward, in_rounds}
 use Rattle.plan_turn.specs.Turn.{Turn, Stuck, Auto, Element, Desliced, Member}
 use Rattle.plan_rounds.proofs.Turning.{took-few}
-use Rattle.planner.specs.Demand.{asked, unmarked, of_rounds}
-use Rattle.planner.proofs.Leads.{leads, takes, reads, steps-good}
+use Rattle.planner.specs.Demand.{asked, unmarked, rounds}
+use Rattle.planner.proofs.Leads.{leads, takes, turns-once, steps-good}
 
 pub asked-append : (ss us : List Step) → asked (ss ++ us) ≡ asked ss ++ asked us
 unfolding asked
@@ -34,11 +35,15 @@ asked-append (s ∷ ss) us = by_kind (leb s.kind of-step.member) (asked-append s
     by_kind true i = rw i
     by_kind false i = i
 
-none_left : (q : List Step) → length q ≤ 0 → (us : List Step) → of_rounds us q ≡ []
-unfolding of_rounds
-none_left q h [] = refl
-none_left [] h (s ∷ us) = refl
-none_left (a ∷ q) h (s ∷ us) = absurd (omega arith)
+rounds-append : (ss us : List Step) → rounds (ss ++ us) ≡ rounds ss + rounds us
+unfolding rounds
+rounds-append [] us = omega arith
+rounds-append (s ∷ ss) us = by_kind (eqb s.kind of-step.autodeslice) (rounds-append ss us)
+  where
+    by_kind : (f : Bool) → rounds (ss ++ us) ≡ rounds ss + rounds us →
+        cond f (rounds (ss ++ us)) (rounds (ss ++ us) + 1) ≡ cond f (rounds ss) (rounds ss + 1) + rounds us
+    by_kind true i = i
+    by_kind false i = omega (arith, i)
 
 good-drop : (k : ℕ) (q : List Step) → good_steps q ≡ true → good_steps (drop k q) ≡ true
 unfolding good_steps
@@ -126,14 +131,24 @@ module _ (stored : ℕ → Stored) where
         (sym (map-append unmarked (take (taken_by (turn_at t a)) (a ∷ q)) (take j (drop (taken_by (turn_at t a)) (a ∷ q))))))
         n t q ss k c e
 
-    -- rounds that took all end with the last asked step
-    pub ends_there : length q ≤ k → (us : List Step) → of_rounds (ss ++ us) q ≡ ss
-    ends_there =
-        every-rounds (λ n t q ss k c. length q ≤ k → (us : List Step) → of_rounds (ss ++ us) q ≡ ss) (λ t. none_left) (λ n t. none_left [])
-        (λ n t a q u ss j c g h all us.
-        let left : length (drop (taken_by (turn_at t a)) (a ∷ q)) ≤ j = omega (arith, all, length-drop (taken_by (turn_at t a)) (a ∷ q)) in
-        rw (append_assoc, reads stored t a q (ss ++ us) u g, h left us) refl)
+    -- "all of them unless the round limit stopped the walk"
+    pub all-taken : (k ≡ length q) ⊎ (rounds ss ≡ n)
+    unfolding rounds
+    all-taken =
+        every-rounds (λ n t q ss k c. (k ≡ length q) ⊎ (rounds ss ≡ n)) (λ t q. inr refl) (λ n t. inl refl)
+        (λ n t a q u us j c g h.
+        ⊎_elim
+        (λ (i : j ≡ length (drop (taken_by (turn_at t a)) (a ∷ q))).
+        inl (omega (arith, i, length-drop (taken_by (turn_at t a)) (a ∷ q), took-few (turn_at t a))))
+        (λ (i : rounds us ≡ n). inr (rounds-append (steps_of a (turn_at t a)) us ∙ rw (turns-once stored t a u g, i) (omega arith))) h)
         n t q ss k c e
+
+    -- there are no more rounds than allowed
+    pub no_longer : rounds ss ≤ n
+    unfolding rounds
+    no_longer =
+        every-rounds (λ n t q ss k c. rounds ss ≤ n) (λ t q. omega arith) (λ n t. omega arith)
+        (λ n t a q u us j c g h. omega (arith, h, rounds-append (steps_of a (turn_at t a)) us, turns-once stored t a u g)) n t q ss k c e
 
     -- no more are counted as taken than were asked
     pub no_more : k ≤ length q

@@ -3,10 +3,11 @@
 use mathlib.Core.Path.{◌≡◌, refl}
 use mathlib.Core.Bool.{true, false}
 use mathlib.Core.List.{List, [], ◌∷◌, ◌++◌}
+use Prim.Native.Nat.{ℕ}
 use lib.ListN.{replicate}
 use Rattle.type_numbers.specs.Kind as kind
 use Rattle.type_layers.specs.Layers.{Layer, layer, outer, inside}
-use Rattle.type_layers.specs.Answer.{refused}
+use Rattle.type_layers.specs.Answer.{Answer, given, nothing, refused}
 use Rattle.type_parts.specs.Parts.{references}
 use Rattle.type_size_and_depth.specs.Depth.{pointer_depth}
 use Rattle.type_wellformed.specs.WellFormed.{inner, element, well_formed}
@@ -19,6 +20,7 @@ use Rattle.plan_settling.specs.Settling.{pointer, settle_otherwise, line_of, set
 use Rattle.plan_rounds.specs.Rounds.{in_rounds}
 use Rattle.symbol_members.specs.Member.{typed, absent}
 use Rattle.walker_rule.specs.Walker.{walker}
+use Rattle.plan_report.specs.Plan.{Plan}
 use Rattle.planner.specs.Plans.{plan_of}
 use Rattle.planner.specs.Demand.{Hidden}
 use Rattle.planner.proofs.Table.{leaf, of, int32, plan, planned}
@@ -63,6 +65,11 @@ the-exception =
 abbrev deep : List Layer
 deep = replicate 15 pointer ++ (layer kind.struct 1 0 ∷ [])
 
-pub sixty-four-rounds : plan_of (λ id. typed deep) deep (replicate 5 (step of-step.member 7 0 0)) (layer kind.struct 1 0 ∷ []) 0 64 ≡ refused 18 4
+abbrev taken_of : Answer Plan → ℕ
+taken_of (given p) = p.taken
+taken_of nothing = 0
+taken_of (refused n p) = 0
+
+pub sixty-four-rounds : taken_of (plan_of (λ id. typed deep) deep (replicate 5 (step of-step.member 7 0 0)) (layer kind.struct 1 0 ∷ []) 0 64) ≡ 4
 unfolding outer inside references pointer_depth inner element well_formed identical plain equals coerces address_coerces turn settle_otherwise line_of settle_by settle in_rounds plan_of
 sixty-four-rounds = refl

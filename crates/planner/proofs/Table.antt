@@ -64,9 +64,9 @@ pub record Table : Type 0 where
   pub slice-of-char8 :
       planned (of kind.slice char8) (asked-element 7 ∷ []) char8 0 64
       ≡ plan (step of-step.autodeslice 0 of-mark.by_view 0 ∷ step of-step.element 7 of-mark.no 0 ∷ []) 1 char8 false false
-  -- "Pointer to Array 3 of Int32, Element, one round, target Int32", of which request b says: "The proved case of one round
-  -- becomes a refusal."
-  pub one-round : planned (of kind.pointer array3) (asked-element 0 ∷ []) int32 0 1 ≡ refused 18 0
+  -- "Pointer to Array 3 of Int32, Element, one round, target Int32: Autoderef, none taken, Array reported."
+  pub one-round :
+      planned (of kind.pointer array3) (asked-element 0 ∷ []) int32 0 1 ≡ plan (step of-step.autoderef 0 0 0 ∷ []) 0 array3 false false
   -- "SlicePointer of Int32, depth 1, to Pointer to EndlessArray of Int32: 10."
   pub slice-pointer : planned (of kind.slice_pointer int32) [] (of kind.pointer (of kind.endless_array int32)) 1 64 ≡ refused 10 0
   -- "Int32, depth 2: target Pointer to Int32 accepted, Pointer to Pointer to Int32 gives 9."

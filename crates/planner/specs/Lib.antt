@@ -2,4 +2,3 @@ pub mod Plans
 pub mod Demand
 pub mod Reported
 pub mod Accepts
-pub mod Earlier

@@ -1,7 +1,7 @@
 -- Plans, on one page: from the checks of a question down to the rounds and the settling, and up to what an entry answers.
 -- "Types are checked 1, 2 (all layers), 3, left before right; then 5, 12, 13, 4 (known, target) ...; then the walk (8, 11, 4
--- for a member's type), the settling, 15, 14.", and by request b "18, after the walk's own 8, 11 and 4, before the settling".
-use Rattle.std.specs.Prelude.{cond, not, List, ℕ, ltb, length}
+-- for a member's type), the settling, 15, 14."
+use Rattle.std.specs.Prelude.{cond, not, List, ℕ, ltb}
 use Rattle.type_numbers.specs.Refusal as refusal
 use Rattle.type_layers.specs.Layers.{Layer, layers}
 use Rattle.type_layers.specs.Answer.{Answer, refused, next}
@@ -26,15 +26,14 @@ limits asked rounds = cond (ltb limit.rounds rounds) (refused refusal.bad_reques
 abbrev pub question : List ℕ → List ℕ → List ℕ → ℕ → Answer ℕ
 question known asked target rounds = next (check_of known) (next (check_of target) (limits asked rounds))
 
--- THE PLAN of types that passed: the rounds (`in_rounds`, plan_rounds), which give 8, 11 and the 4 of a member; then 18 where
--- they leave asked steps (`unless_left`, plan_rounds); then the settling (`settle`, plan_settling), which gives 9 and 10; then 15
--- (`narrow`, plan_report).
+-- THE PLAN of types that passed: the rounds (`in_rounds`, plan_rounds), which give 8, 11 and the 4 of a member; then the settling
+-- (`settle`, plan_settling), which gives 9 and 10; then 15 (`narrow`, plan_report).
 -- "Known, target and member types must be well formed, else 4": known, then target.
 unfoldable pub plan_of : (ℕ → Stored) → List Layer → List Step → List Layer → ℕ → ℕ → Answer Plan
 plan_of stored known asked target depth rounds =
     cond (not (well_formed known)) (refused refusal.ill_formed 0)
     (cond (not (well_formed target)) (refused refusal.ill_formed 0)
-    (settle_rounds (length asked) (in_rounds stored rounds known asked) target depth))
+    (settle_rounds (in_rounds stored rounds known asked) target depth))
 
 -- THE ANSWER of an entry: 12 before the plan, 14 behind it (`delivered`, plan_report). What is told and written of it is
 -- `Delivers` (plan_report): the report, the steps, the type.

@@ -1,7 +1,6 @@
 // Program: plans about a small table, every refusal of a plan but 1 and 3 among them, at the edges of rounds, steps, depth and room.
 // Some of its members lead back to pointers. What it writes is held to the stored lines.
 mod asking;
-mod left;
 mod members;
 mod questions;
 mod report;
@@ -16,7 +15,5 @@ fn main() {
     sweeps::counts();
     sweeps::rooms();
     sweeps::deep();
-    left::left();
-    left::left_late();
     sweeps::disorder();
 }

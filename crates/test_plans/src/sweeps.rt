@@ -2,7 +2,7 @@ ghost use Rattle.std.specs.Prelude.{◌≡◌, length};
 
 use crate::asking::{Numbers, ask, line, ordinary};
 use crate::members::MEMBERS;
-use crate::questions::{asked_at, type_at};
+use crate::questions::type_at;
 use crate::report::{given, text};
 use crate::words::{Words, first};
 use type_numbers::{Kind, StepKind};
@@ -52,15 +52,12 @@ fn asked(i: usize, id: u64, words: usize, rounds: u64) {
     ask(n, &ws, first(&q, words), &ws);
 }
 
-// The most asked steps, one less and one more; as many as the most rounds take; and more than those.
+// The most asked steps, one less and one more; and a plan that the most rounds cut off.
 pub(crate) fn counts() {
     text(b"asked\n");
     asked(2, 7, 124, 64);
     asked(2, 7, 128, 64);
     asked(2, 7, 132, 64);
-    asked(18, 2, 84, 62);
-    asked(18, 2, 84, 63);
-    asked(18, 2, 84, 64);
     asked(18, 2, 128, 62);
     asked(18, 2, 128, 63);
     asked(18, 2, 128, 64);
@@ -111,12 +108,9 @@ fn pointers() -> [u64; 48]
     ws
 }
 
-// Asked for the steps at a place of their list.
-pub(crate) fn deep_at(level: u8, j: usize, rounds: u64) {
+fn deep_at(level: u8) {
     let t = type_at(0);
     let ws = t.words;
-    let s = asked_at(j);
-    let q = s.words;
     let p = pointers();
     text(b"16 layers at");
     given(level as u64);
@@ -126,23 +120,23 @@ pub(crate) fn deep_at(level: u8, j: usize, rounds: u64) {
         known: 48,
         target: 3,
         level,
-        rounds,
+        rounds: 64,
         room: 576,
         wide: 48,
     };
-    ask(n, &p, first(&q, s.count), &ws);
+    ask(n, &p, first(&ws, 0), &ws);
 }
 
 // Fifteen Pointers: their depth, one more and two more.
 pub(crate) fn deep() {
     text(b"depth\n");
-    deep_at(0, 0, 64);
-    deep_at(1, 0, 64);
-    deep_at(14, 0, 64);
-    deep_at(15, 0, 64);
-    deep_at(16, 0, 64);
-    deep_at(17, 0, 64);
-    deep_at(255, 0, 64);
+    deep_at(0);
+    deep_at(1);
+    deep_at(14);
+    deep_at(15);
+    deep_at(16);
+    deep_at(17);
+    deep_at(255);
 }
 
 fn of_records(records: usize) {

@@ -72,7 +72,7 @@ module _ {M : Type 1} {𝓤 : Ura M} (𝓛 : Logic 𝓤) (mem : Memory → SProp
       (λ r s.
       let steps_after = s.1.1.1.1.1.1.1.0.now in
       let type_after = s.1.1.1.1.1.1.1.1.0.now in
-      r.refusal ≡ 0 → Demand (members table store) (layers known) (steps asked) (layers target) level (plan_read r steps_after type_after))
+      r.refusal ≡ 0 → Demand (members table store) (layers known) (steps asked) (layers target) level limit (plan_read r steps_after type_after))
   tj-autoderef-demand = (
     _,
     (

@@ -68,7 +68,3 @@ bad_sheet = 16
 -- "17 stored size over 2^64-1 at any layer measured"
 abbrev pub size_too_large : ℕ
 size_too_large = 17
-
--- by request b "18, after the walk's own 8, 11 and 4, before the settling": asked steps are left untaken
-abbrev pub steps_left : ℕ
-steps_left = 18

@@ -36,6 +36,4 @@ impl Refusal {
     pub const BAD_SHEET: u64 = 16;
 
     pub const SIZE_TOO_LARGE: u64 = 17;
-
-    pub const STEPS_LEFT: u64 = 18;
 }

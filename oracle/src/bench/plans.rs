@@ -91,15 +91,15 @@ struct Question {
 }
 
 impl Question {
-    /// One with as many asked steps, or that ends with an address of a temporary address. What the
-    /// original panics at is left out, and so are steps left, which it plans.
+    /// One whose asked steps are all taken, or that ends with an address of a temporary address. What
+    /// the original panics at is left out.
     fn new(random: &mut Random, held: &Held, steps: usize, refused: bool) -> Self {
         loop {
             let made = Question::any(random, held, steps);
             let judged = judge_plan(&made.put(held));
             let number = match &judged {
-                Ok(_) if made.words.len() < 4 * steps => continue,
-                Ok(_) => 0,
+                Ok(plan) if plan.taken as usize == steps => 0,
+                Ok(_) => continue,
                 Err((number, _)) => *number,
             };
             if number == if refused { 9 } else { 0 } {

@@ -14,9 +14,7 @@ pub struct Plans {
     plan: Row,
     walk: Row,
     /// How often each number was told.
-    numbers: [[u64; 19]; 2],
-    /// How often asked steps were left, by how many were taken.
-    left: BTreeMap<u64, u64>,
+    numbers: [[u64; 18]; 2],
     /// How often each number of rounds was asked for, by questions that are good but for that.
     rounds: BTreeMap<u64, u64>,
     given: u64,
@@ -60,8 +58,7 @@ impl Plans {
         Plans {
             plan: Row::new("autoderef"),
             walk: Row::new("walk"),
-            numbers: [[0; 19]; 2],
-            left: BTreeMap::new(),
+            numbers: [[0; 18]; 2],
             rounds: BTreeMap::new(),
             given: 0,
             arrived: 0,
@@ -77,10 +74,9 @@ impl Plans {
         );
         println!("good questions by rounds: {}", counts(&self.rounds));
         for (name, numbers) in ["autoderef", "walk"].iter().zip(self.numbers) {
-            let told = (1..).zip(&numbers[1..]).filter(|(_, count)| **count > 0);
+            let told = (1..18).zip(&numbers[1..]).filter(|(_, count)| **count > 0);
             println!("refusals of {name}: {}", counts(told));
         }
-        println!("asked steps left, by those taken: {}", counts(&self.left));
         println!();
         vec![self.plan, self.walk]
     }
@@ -96,10 +92,8 @@ impl Plans {
         if is_good_question(asked, &judged) {
             *self.rounds.entry(asked.rounds).or_default() += 1;
         }
-        match &judged {
-            Ok(made) => self.demand(asked, made),
-            Err((18, taken)) => *self.left.entry(*taken).or_default() += 1,
-            Err(_) => {}
+        if let Ok(made) = &judged {
+            self.demand(asked, made);
         }
         judged
     }
@@ -111,13 +105,10 @@ impl Plans {
         count(&mut self.plan, &expected, &found, || told(asked));
     }
 
-    /// Asks again with outputs that just suffice, and with either of them a word shorter. Where steps are
-    /// left, with none: 18 comes before 14.
+    /// Asks again with outputs that just suffice, and with either of them a word shorter.
     pub fn ask_tightly(&mut self, asked: &Asked, judged: &Result<Planned, Refusal>) {
-        let made = match judged {
-            Ok(made) => made,
-            Err((18, _)) => return self.ask_into(asked, judged, [0, 0]),
-            Err(_) => return,
+        let Ok(made) = judged else {
+            return;
         };
         let (steps, reported) = (made.steps.len(), made.reported.len());
         self.ask_into(asked, judged, [steps, reported]);
@@ -176,12 +167,14 @@ fn counts<'a, N: Display>(all: impl IntoIterator<Item = (N, &'a u64)>) -> String
 
 /// Whether nothing was refused before the rounds, their number aside.
 fn is_good_question(asked: &Asked, judged: &Result<Planned, Refusal>) -> bool {
-    let came_to_rounds =
-        |judged: &Result<Planned, Refusal>| matches!(judged, Ok(_) | Err((8..=11 | 18, _)));
-    let rounds = 0;
     match judged {
-        Err((5, _)) => came_to_rounds(&judge_plan(&Asked { rounds, ..*asked })),
-        judged => came_to_rounds(judged),
+        Err((5, _)) => judge_plan(&Asked {
+            rounds: 0,
+            ..*asked
+        })
+        .is_ok(),
+        Err((number, _)) => (8..12).contains(number),
+        Ok(_) => true,
     }
 }
 
@@ -202,14 +195,17 @@ fn is_excepted(asked: &Asked, made: &Planned, ended: &[u64]) -> bool {
         && made.reported == encode(&view.fully_dereferenced())
 }
 
-/// Whether the plan's Elements and Members are, marks aside, all the asked steps in order.
+/// Whether the plan's Elements and Members are, marks aside, the first taken steps of those asked.
 fn takes_in_order(asked: &Asked, made: &Planned) -> bool {
     let unmarked = |step: &[u64]| match step[0] {
         ELEMENT => [ELEMENT, step[1], 0, 0],
         _ => [step[0], step[1], step[2], step[3]],
     };
     let own: Vec<Step> = made.steps.chunks(4).map(unmarked).collect();
-    let own = own.iter().filter(|step| step[0] <= MEMBER).copied();
-    let asked = asked.steps.chunks(4).map(unmarked);
-    made.taken as usize == asked.len() && own.eq(asked)
+    let own = own.iter().filter(|step| step[0] <= MEMBER);
+    own.copied().eq(asked
+        .steps
+        .chunks(4)
+        .map(unmarked)
+        .take(made.taken as usize))
 }

@@ -103,12 +103,10 @@ fn small_types() -> Vec<Vec<u64>> {
     all
 }
 
-/// Where a round is refused, the first two: 18 comes before 10 at the one, and before 9 at the other.
-const DEPTHS: [u8; 5] = [0, 2, 1, 3, 255];
+const DEPTHS: [u8; 5] = [0, 1, 2, 3, 255];
 
-/// Two asked steps need at most five rounds here: all that are too few, just enough and one more; the
-/// most, one less, and one too many.
-const ROUNDS: [u64; 10] = [0, 1, 2, 3, 4, 5, 6, 63, 64, 65];
+/// So few that they cut a plan off, the most, one less, and one too many.
+const ROUNDS: [u64; 7] = [0, 1, 2, 3, 63, 64, 65];
 
 /// Without asked steps every pair of small types.
 fn unasked(plans: &mut Plans, types: &[Vec<u64>], members: &Members) {
@@ -167,7 +165,8 @@ fn along(plans: &mut Plans, known: &[u64], steps: &[u64], types: &[Vec<u64>], me
     }
 }
 
-/// Pointers to Arrays and a SlicePointer to them, 15 and 16 layers in all.
+/// Pointers to Arrays, 15 and 16 layers in all, at every depth that one of them can have: an address
+/// of 16 layers is over the limit.
 fn long(plans: &mut Plans, members: &Members) {
     for layers in [15, 16] {
         for pointers in 0..layers {
@@ -176,31 +175,20 @@ fn long(plans: &mut Plans, members: &Members) {
             known.push(INT32);
             let mut slice = known.clone();
             slice[0] = [SLICE_POINTER, 0, 0];
-            let (known, slice) = (words(&known), words(&slice));
-            for target in [&INT32[..], &known, &slice] {
-                at_depths(plans, &known, target, members);
-                at_depths(plans, &slice, target, members);
+            for target in [vec![INT32], known.clone(), slice] {
+                for depth in 0..=17 {
+                    let asked = Asked {
+                        known: &words(&known),
+                        steps: &[],
+                        target: &words(&target),
+                        depth,
+                        rounds: 64,
+                        members,
+                    };
+                    let judged = plans.ask(&asked);
+                    plans.ask_tightly(&asked, &judged);
+                }
             }
-        }
-    }
-}
-
-/// At every depth that such a type can have and two more: an address of 16 layers is over the limit. With
-/// an Element and hardly a round, 18 comes where 9, 10 and 15 would come later.
-fn at_depths(plans: &mut Plans, known: &[u64], target: &[u64], members: &Members) {
-    let asked: [(&[u64], u64); 3] = [(&[], 64), (&STEPS[0], 0), (&STEPS[0], 1)];
-    for depth in 0..=17 {
-        for (steps, rounds) in asked {
-            let asked = Asked {
-                known,
-                steps,
-                target,
-                depth,
-                rounds,
-                members,
-            };
-            let judged = plans.ask(&asked);
-            plans.ask_tightly(&asked, &judged);
         }
     }
 }

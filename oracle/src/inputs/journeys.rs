@@ -126,44 +126,13 @@ pub fn fitting(
     }
 }
 
-/// How many rounds take a step that fits here.
-fn rounds_to_take(current: &[Layer]) -> usize {
-    let is_outer = |layer: &&Layer| matches!(layer[0], POINTER | VIEW);
-    let outers = current.iter().take_while(is_outer).count();
-    match current[outers][0] {
-        ARRAYLIKE => outers.max(1),
-        _ => outers + 1,
-    }
-}
-
-/// Often around as many as the asked steps need, or fewer, so that steps are left at every place and the
-/// last round takes the last step.
-fn rounds(random: &mut Random, needed: usize) -> u64 {
-    let rounds = match random.below(12) {
-        0..=2 => (needed + random.below(3)).saturating_sub(1).min(64),
-        3 => random.below(needed.min(64) + 1),
-        _ => random.pick(&[0, 1, 2, 63, 65, 64, 64, 64, 64, 64, 64, 64]),
-    };
-    rounds as u64
-}
-
-/// Mostly small; sometimes one more than the Pointers where the steps end, so that an address is taken.
-fn depth(random: &mut Random, current: &[Layer]) -> u8 {
-    let is_pointer = |layer: &&Layer| layer[0] == POINTER;
-    match random.below(20) {
-        0 | 1 => random.below(18) as u8,
-        2 | 3 => current.iter().take_while(is_pointer).count() as u8 + 1,
-        _ => random.pick(&[0, 0, 0, 0, 1, 1, 1, 2, 3, 255]),
-    }
-}
-
 pub fn journey(random: &mut Random) -> Journey {
     let first = random.pick(&[0, 1, 7, u32::MAX - 127]);
     let (table, store) = records(random, first);
     let mut members = Members::new(table, store);
     let known = leading(random);
     let mut current = known.clone();
-    let (mut steps, mut needed) = (Vec::new(), 0);
+    let mut steps = Vec::new();
     let most = random.pick(&[0, 1, 2, 4, 8, MOST_ASKED]);
     while steps.len() < 4 * most {
         if random.once_in(200) {
@@ -172,7 +141,6 @@ pub fn journey(random: &mut Random) -> Journey {
         match fitting(random, &current, first, &members) {
             Some((step, next)) => {
                 steps.extend(step);
-                needed += rounds_to_take(&current);
                 current = next;
             }
             None => break,
@@ -180,12 +148,17 @@ pub fn journey(random: &mut Random) -> Journey {
     }
     steps.truncate(4 * most);
     let target = target(random, &current);
+    let depth = match random.once_in(10) {
+        true => random.below(18) as u8,
+        false => random.pick(&[0, 0, 0, 0, 1, 1, 1, 2, 3, 255]),
+    };
+    let rounds = random.pick(&[0, 1, 2, 63, 65, 64, 64, 64, 64, 64, 64, 64]);
     let mut made = Journey {
         known: words(&known),
         steps,
         target: words(&target),
-        depth: depth(random, &current),
-        rounds: rounds(random, needed),
+        depth,
+        rounds,
         members: Members::new(Vec::new(), Vec::new()),
     };
     if random.once_in(6) {

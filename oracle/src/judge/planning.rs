@@ -1,7 +1,6 @@
 //! Plans and walks as document 01 has them. The plan is the original's `autoderef`. What the original
 //! has not is written from document 01: the checks of words, steps, rounds and table, the form of the
-//! types, the room of the outputs, and the plain walker; and from document 02's letter b, that a plan
-//! without all asked steps is refused.
+//! types, the room of the outputs, and the plain walker.
 
 use super::blank::blank;
 use super::table::{in_order, record, taken, Symbol, PART};
@@ -176,47 +175,22 @@ pub fn judge_plan(asked: &Asked) -> Result<Planned, Refusal> {
     if !known.is_wellformed() || !target.is_wellformed() {
         return Err((4, 0));
     }
-    let original = |steps: &[Step], depth: u8| {
-        let (rounds, members) = (asked.rounds as usize, &asked.members.records);
-        plan(&known, steps, &target, depth, rounds, members)
+    let members = asked.members;
+    let made = |steps: &[Step]| {
+        let (depth, rounds) = (asked.depth, asked.rounds as usize);
+        plan(&known, steps, &target, depth, rounds, &members.records)
     };
-    let made = in_words(&complete(asked, &steps, original)?);
+    let made = match made(&steps) {
+        Err(11) => Err(without_type(&steps, members, |steps| {
+            made(steps) == Err(11)
+        })),
+        made => made,
+    };
+    let made = in_words(&made.map_err(|number| (number, 0))?);
     if made.reported.len() > PART {
         return Err((15, 0));
     }
     Ok(made)
-}
-
-/// The original's plan, if it took every asked step; else 18, which the original has not.
-fn complete(
-    asked: &Asked,
-    steps: &[Step],
-    original: impl Fn(&[Step], u8) -> Result<Plan, u64>,
-) -> Result<Plan, Refusal> {
-    let made = original(steps, asked.depth);
-    let taken = match &made {
-        Ok(made) => made.taken,
-        Err(9 | 10) => taken_by(|depth| original(steps, depth)),
-        Err(11) => {
-            let fails = |first: &[Step]| original(first, asked.depth) == Err(11);
-            return Err((without_type(steps, asked.members, fails), 0));
-        }
-        Err(number) => return Err((*number, 0)),
-    };
-    match taken < steps.len() {
-        true => Err((18, taken as u64)),
-        false => made.map_err(|number| (number, 0)),
-    }
-}
-
-/// How many asked steps were taken by rounds whose settling is refused and so tells no count. They look at
-/// no depth, and at depth 0 every type settles but a SlicePointer, which does at depth 2.
-fn taken_by(original: impl Fn(u8) -> Result<Plan, u64>) -> usize {
-    let made = match original(0) {
-        Err(10) => original(2),
-        made => made,
-    };
-    made.expect("a type that settles").taken
 }
 
 fn in_words(made: &Plan) -> Planned {

@@ -38,15 +38,13 @@ fn later() -> Vec<usize> {
     [&played[..], &[UPDATE; 6], &[AUTODEREF; 9], &[WALK; 3]].concat()
 }
 
-/// What answers of one sort have in common: bad words are one sort, whatever is wrong with them; steps left
-/// are a sort for each number of those taken, up to 3.
+/// What answers of one sort have in common: bad words are one sort, whatever is wrong with them.
 type Sort = (usize, u64, [u64; 2]);
 
 fn sort(question: usize, given: &Answer, beside: [u64; 2]) -> Sort {
     match given.refusal {
         0 => (question, 0, beside),
         1..=3 => (question, 1, [0; 2]),
-        18 => (question, 18, [given.value.min(3), 0]),
         other if question == STORED => (question, other, beside),
         other => (question, other, [0; 2]),
     }

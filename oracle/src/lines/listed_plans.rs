@@ -57,8 +57,7 @@ pub fn plan(random: &mut Random) -> Listed {
     let judged = judge_plan(&asked);
     let (steps, reported) = match &judged {
         Ok(made) => (made.steps.len(), made.reported.len()),
-        // So few that 14 would be told, were it not the last.
-        Err(_) => (1, 1),
+        Err(_) => (4, 6),
     };
     let rooms = match random.below(12) {
         0 => [steps, reported],
@@ -77,7 +76,8 @@ pub fn plan(random: &mut Random) -> Listed {
         value: fields[1],
         written,
     };
-    let sort = [2 * fields[5] + fields[6], fields[2].min(3)];
+    let cut = u64::from(fields[0] == 0 && fields[3] < asked.steps.len() as u64 / 4);
+    let sort = [4 * cut + 2 * fields[5] + fields[6], fields[2].min(3)];
     let numbers = [
         asked.depth.into(),
         asked.rounds,

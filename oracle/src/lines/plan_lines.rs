@@ -134,8 +134,6 @@ pub fn plans() -> String {
     lines.counts();
     lines.rooms();
     lines.deep();
-    lines.left();
-    lines.left_late();
     lines.disorder();
     lines.text
 }
@@ -170,9 +168,6 @@ impl Lines {
             (2, 7, 124, 64),
             (2, 7, 128, 64),
             (2, 7, 132, 64),
-            (18, 2, 84, 62),
-            (18, 2, 84, 63),
-            (18, 2, 84, 64),
             (18, 2, 128, 62),
             (18, 2, 128, 63),
             (18, 2, 128, 64),
@@ -202,60 +197,10 @@ impl Lines {
     /// Fifteen Pointers around an Int32.
     fn deep(&mut self) {
         self.text += "depth\n";
-        for depth in [0, 1, 14, 15, 16, 17, 255] {
-            self.deep_at(depth, 0, 64);
-        }
-    }
-
-    fn deep_at(&mut self, depth: u8, j: usize, rounds: u64) {
         let known = [POINTER_TO.repeat(15), INT32.to_vec()].concat();
-        let told = self.told(&known, &self.asked[j], &INT32, depth, rounds);
-        writeln!(self.text, "16 layers at {depth}:{told}").unwrap();
-    }
-
-    /// Rounds that are used up with asked steps left, and that just suffice.
-    fn left(&mut self) {
-        self.text += "left\n";
-        let sweep = [
-            // None asked, and one.
-            (18, 0, 0, 0),
-            (18, 3, 0, 0),
-            (18, 3, 0, 2),
-            (18, 3, 0, 3),
-            // A Slice's Element, a member and two Pointers and a member: five rounds.
-            (8, 12, 2, 0),
-            (8, 12, 2, 1),
-            (8, 12, 2, 4),
-            (8, 12, 2, 5),
-            // Before an Element that does not fit; before an absent member and an ill-formed one.
-            (23, 2, 0, 2),
-            (23, 2, 0, 3),
-            (2, 8, 0, 0),
-            (2, 8, 0, 1),
-            (2, 7, 0, 0),
-            (2, 7, 0, 1),
-            // An asked Autoderef, which is never taken.
-            (13, 13, 0, 0),
-            (13, 13, 0, 1),
-            (13, 13, 0, 2),
-        ];
-        for (i, j, k, rounds) in sweep {
-            self.line(i, j, k, 0, rounds, ROOMS);
-        }
-    }
-
-    /// Where another refusal would come later: 9, 10, 15 and 14.
-    fn left_late(&mut self) {
-        for (i, j, depth) in [(2, 3, 2), (9, 1, 0)] {
-            self.line(i, j, 0, depth, 0, ROOMS);
-            self.line(i, 0, 0, depth, 0, ROOMS);
-        }
-        self.text += " an Element asked, ";
-        self.deep_at(16, 1, 0);
-        self.deep_at(16, 0, 0);
-        for rounds in [1, 2] {
-            self.text += " no words lent, ";
-            self.line(23, 1, 0, 0, rounds, [0, 0]);
+        for depth in [0, 1, 14, 15, 16, 17, 255] {
+            let told = self.told(&known, &[], &INT32, depth, 64);
+            writeln!(self.text, "16 layers at {depth}:{told}").unwrap();
         }
     }
 

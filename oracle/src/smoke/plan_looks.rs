@@ -2,10 +2,8 @@
 
 use super::count::Smoke;
 use super::few_types::*;
-use crate::judge::planning::{judge_plan, Asked, Members};
 use crate::original::prelude::ValueType;
 use crate::original::typer::ask::{plan, Plan, Step};
-use crate::original::words::encode;
 
 const ELEMENT: Step = [0, 7, 0, 0];
 const MEMBER: Step = [1, 2, 0, 0];
@@ -36,7 +34,6 @@ pub fn plans(smoke: &mut Smoke) {
     settled(smoke);
     members(smoke);
     rounds(smoke);
-    left(smoke);
     agreed(smoke);
 }
 
@@ -58,7 +55,6 @@ fn settled(smoke: &mut Smoke) {
         go(&slice, &[ELEMENT], &char8, 0, 64),
         made(&sliced, 1, &char8),
     );
-    // The smallest input of the difference in docs/DIFFERENCES.md: the Element is left. `left` has the judge's.
     smoke.same(
         "one round",
         go(&pointer(&array), &[ELEMENT], &int, 0, 1),
@@ -131,37 +127,6 @@ fn rounds(smoke: &mut Smoke) {
     smoke.same("five members, 64 rounds", taken(5, 64), Ok(4));
     smoke.same("five members, 254 rounds", taken(5, 254), Ok(5));
     smoke.same("sixteen members, 254 rounds", taken(16, 254), Ok(15));
-}
-
-/// The judge refuses what the original plans without all asked steps, and so what it does not settle then.
-fn left(smoke: &mut Smoke) {
-    let (int, slice_pointer) = (int32(), in_layer(17, &int32()));
-    let array = of(&[[14, 0, 3], INT32].concat());
-    let deep = (0..15).fold(int.clone(), |inner, _| pointer(&inner));
-    let members = Members::new(Vec::new(), Vec::new());
-    let judged = |known: &ValueType, depth: u8, rounds: u64| {
-        judge_plan(&Asked {
-            known: &encode(known),
-            steps: &ELEMENT,
-            target: &INT32,
-            depth,
-            rounds,
-            members: &members,
-        })
-        .map(|made| made.taken)
-    };
-    smoke.same(
-        "one round, judged",
-        judged(&pointer(&array), 0, 1),
-        Err((18, 0)),
-    );
-    smoke.same("two rounds, judged", judged(&pointer(&array), 0, 2), Ok(1));
-    smoke.same("left before 9", judged(&array, 2, 0), Err((18, 0)));
-    smoke.same("9", judged(&array, 2, 1), Err((9, 0)));
-    smoke.same("left before 10", judged(&slice_pointer, 0, 0), Err((18, 0)));
-    smoke.same("left before 15", judged(&deep, 16, 0), Err((18, 0)));
-    smoke.same("left before 8", judged(&int, 0, 0), Err((18, 0)));
-    smoke.same("8", judged(&int, 0, 1), Err((8, 0)));
 }
 
 /// docs/SURPRISES.md.

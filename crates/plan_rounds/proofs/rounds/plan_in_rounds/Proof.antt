@@ -1,11 +1,9 @@
 use mathlib.Core.Logic.{⊎_elim, inl, inr}
-use Prim.Native.Nat.{◌-◌, ◌/◌, ◌<◌}
-use native.Mathlib.Omega.{arith}
-use lib.ListN.{length}
+use Prim.Native.Nat.{◌-◌}
 use borrow.Author.Rules.{rules}
 use Rattle.symbol_members.specs.AsCoded.{member_in}
 use Rattle.plan_rounds.proofs.Reading.{none-fits, auto-fits, element-fits, desliced-fits, no_member, ill-formed, member-fits}
-use Rattle.plan_rounds.proofs.Looping.{Along, along-start, one_at_most, full, here-whole, push-room, few-steps, end-room, taken-fits, told-left, steps-left, type-left, told-end, steps-end, type-end, told-refusal, steps-stay, type-stays, along-turn}
+use Rattle.plan_rounds.proofs.Looping.{Along, along-start, one_at_most, full, here-whole, push-room, few-steps, end-room, taken-fits, told-end, steps-end, type-end, told-refusal, steps-stay, type-stays, along-turn}
 use Rattle.plan_rounds.proofs.rounds.plan_in_rounds.Statement.{statement}
 use Rattle.plan_rounds.proofs.rounds.plan_in_rounds.Tie as tie
 
@@ -68,16 +66,10 @@ plan-in-rounds-spec =
     ⊎_elim (λ w. let g = desliced-fits t next w.1.given.0.0 w.1.given.1 in search (along-turn, g, so, all, rules))
     (λ w. let g = member-fits t next w.1.given.1 w.2.left w.3.result w.3.ensures w.4.left in search (along-turn, g, so, all, rules)) w) w)
     m.match.branch)
-    (λ c κs. search rules)
-    (λ c.
-    let a = c.before.before.before.before.before.before.before.before.before.before.args in
-    let out = ⊎_elim (λ w. inl w.left) (λ w. inr w.1.taken) c.before.before.loop-test.branch in
-    let left : c.before.before.before.loop.taken < length a.asked.now / 4 = omega arith in
-    (search (told-left, out, left, rules), (search (steps-left, out, left, rules), search (type-left, out, left, rules))))
     (λ c. search full)
     (λ c κs. (search here-whole, search rules, search rules, search (end-room, few-steps, rules)))
     (λ c. search rules)
     (λ c. search rules)
     (λ c.
-    let out = ⊎_elim (λ w. inl w.left) (λ w. inr w.1.taken) c.before.before.before.before.before.before.before.before.before.before.loop-test.branch in
-    (search (told-end, out, rules), (search (steps-end, out, rules), search (type-end, out, rules)))))
+    let out = ⊎_elim (λ w. inl w.left) (λ w. inr w.1.taken) c.before.before.before.before.before.before.before.before.before.loop-test.branch in
+    (search (told-end, out), (search (steps-end, out), search (type-end, out)))))

@@ -1,0 +1,6 @@
+use borrow.Author.Rules.{rules}
+use Rattle.type_layers.proofs.Decide.{one_of}
+use Rattle.type_layers.proofs.sorts.holds_inner.Goals as goal
+
+pub returns : goal.returns
+returns c = search one_of

@@ -1,0 +1,18 @@
+mod coercion_number ;
+mod context ;
+mod effect ;
+mod kind ;
+mod limit ;
+mod mark ;
+mod refusal ;
+mod state ;
+mod step_kind ;
+pub use coercion_number :: CoercionNumber ;
+pub use context :: Context ;
+pub use effect :: Effect ;
+pub use kind :: Kind ;
+pub use limit :: Limit ;
+pub use mark :: Mark ;
+pub use refusal :: Refusal ;
+pub use state :: State ;
+pub use step_kind :: StepKind ;

@@ -1,0 +1,10 @@
+pub mod Kind
+pub mod StepKind
+pub mod Mark
+pub mod Context
+pub mod CoercionNumber
+pub mod State
+pub mod Effect
+pub mod Refusal
+pub mod Limit
+pub mod AsCoded
