@@ -1,4 +1,6 @@
 // Program: reads a sheet and prints how each of its types stands to each; `sheet_pairs` makes the text.
+#![tactic(auto)]
+
 ghost use Rattle.std.specs.Prelude.{◌≡◌, length};
 
 use sheet_pairs::pairs_text;

@@ -1,4 +1,6 @@
 // A plan as it is told and written, or the refusals 15 and 14. In the Rust: in `autoderef`.
+#![tactic(auto)]
+
 mod delivery;
 mod pointers;
 mod report;

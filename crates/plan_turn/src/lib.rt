@@ -1,4 +1,6 @@
 // What one round decides, on numbers. In the Rust: in `autoderef`.
+#![tactic(auto)]
+
 mod decide_turn;
 mod turn;
 

@@ -1,4 +1,6 @@
 // The plan for any words, tables and numbers, and the theorem of the third demand. In the Rust: `autoderef`.
+#![tactic(auto)]
+
 mod autoderef_lent;
 mod plan_checks;
 

@@ -1,4 +1,6 @@
 // Coerces, autoderefs, sub-autoderefs. In the Rust: `can_coerce_into` to `can_subautoderef_into`.
+#![tactic(auto)]
+
 mod autoderefs;
 mod coercion;
 

@@ -1,4 +1,6 @@
 // Like, declared as, concretization. In the Rust: `is_like`, `can_be_declared_as`, `can_be_concretization_of`.
+#![tactic(auto)]
+
 mod concretization;
 mod declared;
 mod like;

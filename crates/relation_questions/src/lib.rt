@@ -1,4 +1,6 @@
 // Each relation, asked of any words.
+#![tactic(auto)]
+
 mod ask_coercion;
 mod ask_relation;
 

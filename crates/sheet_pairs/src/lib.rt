@@ -1,4 +1,6 @@
 // The text that `pairs` prints, for any bytes.
+#![tactic(auto)]
+
 mod line;
 mod pairs_table;
 

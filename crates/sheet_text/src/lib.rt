@@ -1,4 +1,6 @@
 // Bytes and numbers put into a lent text.
+#![tactic(auto)]
+
 mod text;
 
 pub use text::{put, put_number};

@@ -1,4 +1,6 @@
 // Bytes as words, the lowest byte first.
+#![tactic(auto)]
+
 mod decode_words;
 
 pub use decode_words::words_of;

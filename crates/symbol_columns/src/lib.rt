@@ -1,4 +1,6 @@
 // `Symbol`; the records of a table as six columns of words; the words of a slot and of the type that stands there. In the Rust: `struct Symbol`.
+#![tactic(auto)]
+
 mod column;
 mod rows;
 mod stored_type;

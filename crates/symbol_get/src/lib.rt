@@ -1,4 +1,6 @@
 // What a table in columns has under a name.
+#![tactic(auto)]
+
 mod get;
 
 pub use get::{Got, get_among, type_among};

@@ -1,4 +1,6 @@
 // A lent run of records gathered into columns; the search by id; what proofs by hand over lent records share.
+#![tactic(auto)]
+
 mod gather_rows;
 mod search_lent;
 

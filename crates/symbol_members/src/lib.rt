@@ -1,4 +1,6 @@
 // What a table in columns has of a member: the type that is stored under its id.
+#![tactic(auto)]
+
 mod members;
 
 pub use members::member;

@@ -1,4 +1,6 @@
 // What is done to a table under a name: put of nothing, poison or a type, forward declaration of poison or a type.
+#![tactic(auto)]
+
 mod operation;
 
 pub use operation::{Act, Asked, Declared, Offer, Operation, act_of, forward, offers_type, put};

@@ -1,4 +1,6 @@
 // A lent table of records with its store: put, poison, forward declare, get. In the Rust: `put_symbol`, `poison_symbol`, `forward_declare_symbol`, `get_symbol`.
+#![tactic(auto)]
+
 mod change;
 mod get;
 mod put;

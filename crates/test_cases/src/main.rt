@@ -1,5 +1,7 @@
 // Program: every question about one type and about two, and types fixed, of ordinary words and of the worst.
 // What it writes is held to the stored lines.
+#![tactic(auto)]
+
 mod bad_words;
 mod fixing;
 mod inputs;

@@ -15,6 +15,8 @@
 // 39 plans from a. b: depth, rounds, the words lent for the steps and for the type, the store's words.
 //    Written is steps, taken, layers, address, coerced, then the steps' words and the type's.
 // 40 walks from a. b: the address, the words lent, two that are 0, the store's words. Written is the type.
+#![tactic(auto)]
+
 mod answer;
 mod changing;
 mod compare;

@@ -1,4 +1,6 @@
 // The C face: each question as an exported function, as `include/trestlejay.h` declares it.
+#![tactic(auto)]
+
 mod fixing;
 mod measures;
 mod parts;

@@ -1,4 +1,6 @@
 // The lowest and the highest value of a type. In the Rust: `min_i128`, `max_u128`.
+#![tactic(auto)]
+
 mod bound;
 mod min_and_max;
 

@@ -1,4 +1,6 @@
 // A layer of each kind, two in a row, and the types of strings. In the Rust: `enum ValueType`, `for_string_literal`, `for_string_slice`.
+#![tactic(auto)]
+
 mod layer;
 mod layer_pair;
 mod strings;

@@ -1,4 +1,6 @@
 // What the checks 1 to 3 refuse first, and where.
+#![tactic(auto)]
+
 mod bad_word;
 mod first_refusal;
 

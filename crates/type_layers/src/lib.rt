@@ -1,4 +1,6 @@
 // What a type is: its words as layers, the kinds by their sort, outer kind and inner type; and the answers that every crate gives.
+#![tactic(auto)]
+
 mod answers;
 mod outer_and_inner;
 mod sorts;

@@ -1,4 +1,6 @@
 // The numbers of the rules, by name: kinds, steps, marks, contexts, coercions, states, effects, refusals, limits. In the Rust: `enum ValueType`, `enum FixContext`.
+#![tactic(auto)]
+
 mod coercion_number;
 mod context;
 mod effect;

@@ -1,4 +1,6 @@
 // The known size of a type, and its pointer depth. In the Rust: `known_size_in_bytes_as_word_member`, `pointer_depth`.
+#![tactic(auto)]
+
 mod answers;
 mod known_sizes;
 mod pointer_depths;

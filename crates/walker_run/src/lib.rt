@@ -1,4 +1,6 @@
 // The walker as a function: steps in a row, then the address.
+#![tactic(auto)]
+
 mod steps_taken;
 mod walk_lent;
 

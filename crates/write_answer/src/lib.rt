@@ -1,4 +1,6 @@
 // Answers as two numbers, a refusal and a value, for C.
+#![tactic(auto)]
+
 mod answer;
 
 pub use answer::{Answer, accepted, checked, refused, verdict};

@@ -1,8 +1,0 @@
-# [ derive ( Drop ) ] pub struct StepKind ( pub u64 ) ;
-impl StepKind {
-# [ read_as = "32d6858ec3495d629f784fa64df75e450c0a686ae8f1455bbea24daa8adaff25" ] pub const ELEMENT : u64 = 0 ;
-# [ read_as = "7dd98d097d6cb6a2a3a560798009c82952684edb22fa3719f1f318ee36da00af" ] pub const MEMBER : u64 = 1 ;
-# [ read_as = "ab9b2b98f3228cc11c386ca68831c199b2a3b8756b1fec29ea115d126735db14" ] pub const AUTODESLICE : u64 = 2 ;
-# [ read_as = "5717d84133938b14dc03241507d16aac8babda0b5934c0ed7b2c3db3d20a1e00" ] pub const AUTODEREF : u64 = 3 ;
-# [ read_as = "ce9b15e755125d7e40c5657e1a183887964a01539aa89f2a6b04364d06a43e6e" ] pub const AUTOVIEW : u64 = 4 ;
-}
