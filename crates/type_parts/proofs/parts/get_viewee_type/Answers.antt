@@ -1,0 +1,6 @@
+use borrow.Author.Rules.{rules}
+use Rattle.type_parts.proofs.Dereferenced.{viewee-is}
+use Rattle.type_parts.proofs.parts.get_viewee_type.Goals as goal
+
+pub returns : goal.returns
+returns c = search viewee-is

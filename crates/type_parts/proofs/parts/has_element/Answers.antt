@@ -1,0 +1,6 @@
+use borrow.Author.Rules.{rules}
+use Rattle.type_layers.proofs.Decide.{either-of}
+use Rattle.type_parts.proofs.parts.has_element.Goals as goal
+
+pub returns : goal.returns
+returns c = search either-of
