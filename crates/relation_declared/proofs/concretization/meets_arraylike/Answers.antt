@@ -1,0 +1,6 @@
+use borrow.Author.Rules.{rules}
+use Rattle.relation_declared.proofs.Decisions.{meets-by}
+use Rattle.relation_declared.proofs.concretization.meets_arraylike.Goals as goal
+
+pub returns : goal.returns
+returns c = search meets-by

@@ -1,0 +1,6 @@
+use borrow.Author.Rules.{rules}
+use Rattle.sheet_words.proofs.Decoding.{word-here}
+use Rattle.sheet_words.proofs.decode_words.word_at.Goals as goal
+
+pub returns : goal.returns
+returns c = search word-here
