@@ -6,7 +6,7 @@ use type_numbers::StepKind;
 use type_parts::fully_dereferenced;
 
 // What a settling adds, in numbers: so many steps of a kind, so many Pointers before the body of the reported type.
-#[derive(Drop)]
+#[derive(Clone, Copy)]
 pub struct Ending {
     pub refused: bool,
     pub number: u64,

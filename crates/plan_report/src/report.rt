@@ -1,6 +1,6 @@
 // A plan as it is told: its refusal, or how many steps and layers were written and what the plan does then.
 #[repr(C)]
-#[derive(Drop)]
+#[derive(Clone, Copy)]
 pub struct Report {
     pub refusal: u64,
     pub value: u64,

@@ -8,7 +8,7 @@ use type_numbers::{Kind, Refusal};
 use type_size_and_depth::depth;
 
 // How a plan is settled: the line that applies, and of the last line what it comes to.
-#[derive(Drop)]
+#[derive(Clone, Copy)]
 pub enum Settling {
     // (i) The current type, without a step.
     Identical,

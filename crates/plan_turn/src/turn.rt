@@ -1,5 +1,5 @@
 // What one round decides.
-#[derive(Drop)]
+#[derive(Clone, Copy)]
 pub enum Turn {
     // No step fits.
     Stuck,

@@ -10,7 +10,7 @@ use type_layers::{inner, outer};
 use type_numbers::{CoercionNumber, Kind};
 
 // How a type coerces into another: not at all, as a value, or by its address.
-#[derive(Drop)]
+#[derive(Clone, Copy)]
 pub enum Coercion {
     None,
     AsValue,
@@ -56,7 +56,7 @@ impl Coercion {
 }
 
 // What the outer kinds leave open: an answer, and what has to be the same for it.
-#[derive(Drop)]
+#[derive(Clone, Copy)]
 enum Open {
     Closed,
     // As a value: the Struct and what the View holds.

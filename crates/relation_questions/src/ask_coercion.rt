@@ -7,7 +7,7 @@ use type_first_refusal::check_types;
 use type_layers::Checked;
 
 // How a type coerces into another, or the refusal of either.
-#[derive(Drop)]
+#[derive(Clone, Copy)]
 pub enum CoercionAnswer {
     Given(Coercion),
     Refused { number: u64, place: u64 },

@@ -10,7 +10,7 @@ use type_first_refusal::check_types;
 use type_layers::{Checked, Verdict};
 
 // The relations of yes or no that can be asked for.
-#[derive(Drop)]
+#[derive(Clone, Copy)]
 pub enum Relation {
     Identical,
     Equals,

@@ -15,7 +15,7 @@ use type_numbers::{Effect, Limit, Refusal, State};
 use write_answer::{Answer, accepted, refused};
 
 // A slot and its new record, with the answer. Past the last slot: no record is stored.
-#[derive(Drop)]
+#[derive(Clone, Copy)]
 pub struct Change {
     pub slot: usize,
     pub symbol: Symbol,

@@ -1,7 +1,7 @@
 use type_numbers::Limit;
 
 // Where each column of a table starts; the ids stand first.
-#[derive(Drop)]
+#[derive(Clone, Copy)]
 pub struct Column(pub usize);
 
 impl Column {

@@ -1,6 +1,6 @@
 // One record of a symbol table. Slot k's type stands in the store from word 48 k on.
 #[repr(C)]
-#[derive(Drop)]
+#[derive(Clone, Copy)]
 pub struct Symbol {
     pub id: u32,
     pub authority: bool,

@@ -10,7 +10,7 @@ use type_numbers::{Refusal, State};
 use write_answer::{Answer, accepted, refused};
 
 // What stands under a name: nothing, a type in a slot, or poison with its mark.
-#[derive(Drop)]
+#[derive(Clone, Copy)]
 pub enum Got {
     Absent,
     Typed(usize),

@@ -3,7 +3,7 @@ ghost use Rattle.symbol_operations.specs.Operations as rules;
 ghost use Rattle.symbol_operations.specs.AsCoded as as-coded;
 
 // What is done to a table under a name.
-#[derive(Drop)]
+#[derive(Clone, Copy)]
 pub enum Operation {
     PutNothing,
     PutPoison,
@@ -13,7 +13,7 @@ pub enum Operation {
 }
 
 // An operation that makes or changes a record.
-#[derive(Drop)]
+#[derive(Clone, Copy)]
 pub enum Act {
     PutPoison,
     PutType,
@@ -22,14 +22,14 @@ pub enum Act {
 }
 
 // What an operation asks for: nothing, or an act.
-#[derive(Drop)]
+#[derive(Clone, Copy)]
 pub enum Asked {
     Nothing,
     Acts(Act),
 }
 
 // What is put.
-#[derive(Drop)]
+#[derive(Clone, Copy)]
 pub enum Offer {
     Nothing,
     Poison,
@@ -37,7 +37,7 @@ pub enum Offer {
 }
 
 // What is declared forward.
-#[derive(Drop)]
+#[derive(Clone, Copy)]
 pub enum Declared {
     Poison,
     Type,

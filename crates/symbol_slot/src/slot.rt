@@ -14,7 +14,7 @@ use type_layers::Checked;
 use type_numbers::Refusal;
 
 // The record that an act is about: the one that has the id, or the first free one.
-#[derive(Drop)]
+#[derive(Clone, Copy)]
 pub enum Way {
     Refused { number: u64, place: u64 },
     Found(usize),

@@ -8,7 +8,7 @@ use write_answer::{Answer, accepted, refused};
 use write_words::write_words;
 
 // What an update leaves in the record, and its answer.
-#[derive(Drop)]
+#[derive(Clone, Copy)]
 pub struct Updated {
     pub symbol: Symbol,
     pub answer: Answer,

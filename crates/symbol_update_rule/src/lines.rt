@@ -9,7 +9,7 @@ use relation_equals::identical;
 use type_wellformed::is_wellformed;
 
 // The lines of the rule, in its order.
-#[derive(Drop)]
+#[derive(Clone, Copy)]
 pub enum Line {
     Poisoned,
     IllFormed,

@@ -7,7 +7,7 @@ pub(crate) const TYPES: usize = 24;
 pub(crate) const FIXED: usize = 32;
 
 // A type of at most three layers: its words, and how many there are.
-#[derive(Drop)]
+#[derive(Clone, Copy)]
 pub(crate) struct Type {
     pub words: [u64; 9],
     pub count: usize,

@@ -14,7 +14,7 @@ const TARGET: usize = 384;
 
 // The numbers of a question: the table's records, the words of the known type and of the target, the depth, the rounds,
 // and the words lent for the steps and for the type.
-#[derive(Drop)]
+#[derive(Clone, Copy)]
 pub(crate) struct Numbers {
     pub records: usize,
     pub known: usize,

@@ -1,7 +1,7 @@
 use write_words::write_words;
 
 // A type of at most three layers, or at most three steps: the words, and how many there are.
-#[derive(Drop)]
+#[derive(Clone, Copy)]
 pub(crate) struct Words {
     pub words: [u64; 12],
     pub count: usize,

@@ -3,7 +3,7 @@ use crate::runs::word;
 use trestlejay::Answer;
 
 // What the Rust answered.
-#[derive(Drop)]
+#[derive(Clone, Copy)]
 pub(crate) struct Expected {
     pub refusal: u64,
     pub value: u64,
@@ -15,7 +15,7 @@ pub(crate) fn told(a: Answer, e: Expected) -> bool {
 }
 
 // What was answered, with what was written behind the pointers that were lent.
-#[derive(Drop)]
+#[derive(Clone, Copy)]
 struct Got {
     answer: Answer,
     first: u64,

@@ -48,7 +48,7 @@ fn agreed(all: &[u64]) -> bool {
 }
 
 // A case: whether the answers agree, and where the next one starts.
-#[derive(Drop)]
+#[derive(Clone, Copy)]
 struct Case {
     same: bool,
     next: usize,

@@ -116,7 +116,7 @@ pub(crate) fn fields(s: Symbol) -> [u64; 6] {
 }
 
 // A name and a mark, and how many words of the store are lent.
-#[derive(Drop)]
+#[derive(Clone, Copy)]
 pub(crate) struct Name {
     pub id: u32,
     pub authority: bool,

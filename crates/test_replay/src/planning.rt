@@ -20,7 +20,7 @@ fn level(depth: u64) -> u8 {
 }
 
 // How many words of the known type and of the target there are.
-#[derive(Drop)]
+#[derive(Clone, Copy)]
 struct Counts {
     known: usize,
     target: usize,

@@ -1,7 +1,7 @@
 ghost use Rattle.std.specs.Prelude.{◌≤◌, ◌<◌, length};
 
 // A number, whether it is the last of its line, and where the next one starts.
-#[derive(Drop)]
+#[derive(Clone, Copy)]
 pub(crate) struct Parsed {
     pub value: u64,
     pub last: bool,
@@ -53,7 +53,7 @@ fn number(s: &[u8], at: usize) -> Parsed
 }
 
 // How many numbers a line has, and where the next line starts.
-#[derive(Drop)]
+#[derive(Clone, Copy)]
 pub(crate) struct Numbers {
     pub count: usize,
     pub next: usize,

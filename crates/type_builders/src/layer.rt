@@ -5,7 +5,7 @@ ghost use Rattle.type_numbers.specs.AsCoded.{words};
 use type_numbers::Kind;
 
 // The functions build a layer of each kind: its three words.
-#[derive(Drop)]
+#[derive(Clone, Copy)]
 pub struct Layer;
 
 impl Layer {

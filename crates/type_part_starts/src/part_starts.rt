@@ -10,7 +10,7 @@ use type_layers::Checked;
 use type_parts::{fully_dereferenced, get_element_type, get_pointee_type, get_viewee_type};
 
 // The parts of a type that can be asked for.
-#[derive(Drop)]
+#[derive(Clone, Copy)]
 pub enum Part {
     Element,
     Pointee,
@@ -19,7 +19,7 @@ pub enum Part {
 }
 
 // The word at which a part of a type starts.
-#[derive(Drop)]
+#[derive(Clone, Copy)]
 pub enum Start {
     At(u64),
     Nothing,

@@ -8,7 +8,7 @@ use type_layers::{Checked, Verdict, outer};
 use type_numbers::Kind;
 
 // What the outer kind alone tells of a type.
-#[derive(Drop)]
+#[derive(Clone, Copy)]
 pub enum Property {
     Void,
     Integral,

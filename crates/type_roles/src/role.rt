@@ -1,5 +1,5 @@
 // What a type can be used as.
-#[derive(Drop)]
+#[derive(Clone, Copy)]
 pub enum Role {
     Sized,
     StructMember,

@@ -1,5 +1,5 @@
 // A size in bytes, or that there is none.
-#[derive(Drop)]
+#[derive(Clone, Copy)]
 pub enum Size {
     Bytes(u64),
     Nothing,
@@ -7,7 +7,7 @@ pub enum Size {
 }
 
 // How many there are.
-#[derive(Drop)]
+#[derive(Clone, Copy)]
 pub enum Count {
     Of(u64),
     Refused { number: u64, place: u64 },

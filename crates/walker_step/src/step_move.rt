@@ -6,7 +6,7 @@ use type_layers::{inner, outer};
 use type_numbers::{Kind, Mark, StepKind};
 
 // What a step does.
-#[derive(Drop)]
+#[derive(Clone, Copy)]
 pub enum Move {
     // It sticks.
     Stuck,

@@ -6,7 +6,7 @@ use type_layers::{Checked, Verdict};
 
 // An answer as C has it: the refusal's number, or 0; and the value, or the refusal's place.
 #[repr(C)]
-#[derive(Drop)]
+#[derive(Clone, Copy)]
 pub struct Answer {
     pub refusal: u64,
     pub value: u64,

@@ -1,0 +1,16 @@
+use borrow.Author.Rules.{rules}
+use Rattle.write_type.proofs.Outcomes.{carried, stays}
+use Rattle.extern_fixing.proofs.Fixes.{ill-formed, not-allowed, allowed, copied, part_length}
+use Rattle.std.proofs.Common.{ap}
+use mathlib.Core.Bool.{not}
+use Rattle.extern_fixing.proofs.externalize.externalize_part.Goals as goal
+
+pub returns-then-not-is_wellformed : goal.returns-then-not-is_wellformed
+returns-then-not-is_wellformed c = stays _ _ _ _ (ill-formed _ _ _ _ _ c.is_wellformed.ensures (ap not c.if-not-is_wellformed.true))
+
+pub slice_bounds-write_type-end : goal.slice_bounds-write_type-end
+slice_bounds-write_type-end c = part_length c.args.t.now c.externalize_type.new.1.1.0 c.requires.0 c.externalize_type.auto.1.1.0
+
+pub returns-in-Refused : goal.returns-in-Refused
+returns-in-Refused c =
+    stays _ _ _ _ (not-allowed _ _ _ _ _ c.is_wellformed.ensures (ap not c.if-not-is_wellformed.false) _ _ _ c.externalize_type.ensures.answer c.number-1.given.1)

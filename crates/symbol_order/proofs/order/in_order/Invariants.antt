@@ -1,0 +1,17 @@
+use mathlib.Core.Path.{◌≡◌}
+use Prim.Native.Nat.{◌≤◌, ◌-◌, ◌*◌}
+use borrow.Author.Rules.{rules}
+use borrow.Author.Tests.{not-true, not-false}
+use lib.ListN.{length, drop}
+use Rattle.symbol_columns.specs.AsCoded.{read_from}
+use Rattle.symbol_columns.proofs.Reading.{from}
+use Rattle.symbol_order.specs.Order.{in_order}
+use Rattle.symbol_order.specs.AsCoded.{Noted}
+use Rattle.symbol_order.proofs.Onward.{onward, too_many, other-store, start, ends, breaks, goes_on, slot, noted-start, still_full, noted_more}
+use Rattle.symbol_order.proofs.order.in_order.Given as goal
+
+abbrev pub invariant-loop-k : goal.invariant-loop-k
+invariant-loop-k l = (l.k ≤ l.n) × (length l.noted ≡ 512) × Noted l.noted l.flat l.k × (onward l.free (read_from l.flat 0 l.k) (from l.flat l.n l.k) (drop (l.k * 48) l.store) ≡ in_order (read_from l.flat 0 l.n) l.store)
+
+abbrev pub decreases-loop-k : goal.decreases-loop-k
+decreases-loop-k l = l.n - l.k

@@ -1,0 +1,6 @@
+use borrow.Author.Rules.{rules}
+use Rattle.symbol_order.proofs.Onward.{not_noted}
+use Rattle.symbol_order.proofs.order.repeats.Goals as goal
+
+pub returns-else-noted-id : goal.returns-else-noted-id
+returns-else-noted-id c = search not_noted

@@ -1,0 +1,12 @@
+use borrow.Author.Rules.{rules}
+use Rattle.type_checks.proofs.Refusals.{refuses, accepts}
+use Rattle.type_bounds.specs.Bounds.{highest_answer}
+use Rattle.type_bounds.proofs.min_and_max.max_u128.Goals as goal
+
+pub returns-in-Refused : goal.returns-in-Refused
+unfolding highest_answer
+returns-in-Refused c = search refuses
+
+pub returns-in-Good : goal.returns-in-Good
+unfolding highest_answer
+returns-in-Good c = search accepts

@@ -1,0 +1,5 @@
+use borrow.Author.Rules.{rules}
+use Rattle.type_properties.proofs.properties.is_integral.Goals as goal
+
+pub returns : goal.returns
+returns c = cc
