@@ -1,4 +1,4 @@
-use Rattle.std.proofs.Common.{◌-◌, ◌≤◌, length, ◌×◌}
+use Rattle.std.proofs.Common.{◌-◌, ◌≤◌, length}
 use Rattle.test_replay.proofs.compare.run_all.Given as goal
 
 abbrev pub invariant-loop-at : goal.invariant-loop-at

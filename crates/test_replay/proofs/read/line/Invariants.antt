@@ -1,4 +1,4 @@
-use Rattle.std.proofs.Common.{◌-◌, ◌≤◌, ◌<◌, length, ◌×◌}
+use Rattle.std.proofs.Common.{◌-◌, ◌≤◌, ◌<◌, length}
 use Rattle.test_replay.proofs.read.line.Given as goal
 
 abbrev pub invariant-loop-count : goal.invariant-loop-count
