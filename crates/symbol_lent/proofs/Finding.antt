@@ -1,13 +1,12 @@
 -- The search through a table, record by record.
 -- Assumes nothing.
 use mathlib.Core.Path.{◌≡◌, refl, sym, ap, ◌∙◌}
-use mathlib.Core.Bool.{Bool, true, false, cond, not}
+use mathlib.Core.Bool.{Bool, true, false, cond}
 use mathlib.Core.List.{List}
 use Prim.Native.Nat.{ℕ, suc, ◌+◌, ◌<◌, ◌≤◌}
 use native.Mathlib.Nat.{zero-add}
 use native.Mathlib.Numerals.{add-one}
 use native.Mathlib.Omega.{arith}
-use lib.Dec.{T}
 use lib.ListN.{length, drop, get_or, drop_of_length-le}
 use lib.Seq.{drop-cons}
 use Rattle.symbol_columns.specs.declared.symbol.Symbol.{Symbol}
@@ -21,18 +20,18 @@ Passed ys id i = slot_for id ys ≡ i + slot_for id (drop i ys)
 pub at-start : (ys : List Symbol) (id : ℕ) → Passed ys id 0
 at-start ys id = sym (zero-add (slot_for id ys))
 
-when : (z : Bool) (a b : ℕ) → T z → cond z a b ≡ a
+when : (z : Bool) (a b : ℕ) → z ≡ true → cond z a b ≡ a
 when true a b h = refl
-when false a b h = absurd h
+when false a b h = cc
 
-unless : (z : Bool) (a b : ℕ) → T (not z) → cond z a b ≡ b
-unless true a b h = absurd h
+unless : (z : Bool) (a b : ℕ) → z ≡ false → cond z a b ≡ b
+unless true a b h = cc
 unless false a b h = refl
 
 module _ (ys : List Symbol) (id i : ℕ) where
   module _ (l : i < length ys) (p : Passed ys id i) where
     -- the record at i has the id
-    pub found : T (has id (get_or ys i vacant)) → i ≡ slot_for id ys
+    pub found : has id (get_or ys i vacant) ≡ true → i ≡ slot_for id ys
     unfolding slot_for
     found h =
         let e : slot_for id (drop i ys) ≡ 0 =
@@ -40,7 +39,7 @@ module _ (ys : List Symbol) (id i : ℕ) where
         omega (arith, e, p)
 
     -- it has not
-    pub onward : T (not (has id (get_or ys i vacant))) → Passed ys id (i + 1)
+    pub onward : has id (get_or ys i vacant) ≡ false → Passed ys id (i + 1)
     unfolding slot_for
     onward h =
         let e : slot_for id (drop i ys) ≡ suc (slot_for id (drop (suc i) ys)) =

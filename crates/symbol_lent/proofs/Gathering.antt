@@ -1,14 +1,14 @@
 -- What was gathered into columns is read out of them.
 -- Assumes nothing.
 use mathlib.Core.Path.{◌≡◌, refl, sym, ap, subst, ◌∙◌}
-use mathlib.Core.Bool.{Bool, true, false, cond, not}
+use mathlib.Core.Bool.{Bool, true, false, cond}
 use mathlib.Core.List.{List, ◌∷◌}
 use mathlib.Core.Logic.{◌≢◌}
-use Prim.Native.Nat.{ℕ, zero, suc, ◌+◌, ◌-◌, ◌<◌, ◌≤◌}
+use Prim.Native.Nat.{ℕ, zero, suc, ◌+◌, ◌<◌, ◌≤◌}
 use native.Mathlib.Nat.{zero-add, not-suc-le-zero}
 use native.Mathlib.Numerals.{add-one}
 use native.Mathlib.Omega.{arith}
-use lib.Dec.{T, eqb, ltb}
+use lib.Dec.{eqb, ltb}
 use lib.ListN.{length, drop, get_or, set, replicate, length-replicate, length-set, drop_of_length-le}
 use lib.Seq.{get_or-set_same, get_or-set_other, drop-cons}
 use borrow.Author.Tests.{lt-ltb, le-ltb, ltb-true, ltb-false, eqb-true, eqb-false}
@@ -28,21 +28,13 @@ module _ (ws : List ℕ) (table : List Symbol) where
   unfolding rows_into
   rows_next k = ap (rows_into ws table) (add-one k)
 
-  pub gather-many : T (ltb 128 (length table)) → ws ≡ gathered_into ws table
+  pub gather-many : 128 < length table → ws ≡ gathered_into ws table
   unfolding gathered_into
-  gather-many h = both (ltb 128 (length table)) h
-    where
-      both : (t : Bool) → T t → ws ≡ cond t ws (rows_into ws table (length table))
-      both true z = refl
-      both false z = absurd z
+  gather-many h = rw (lt-ltb 128 (length table) h)
 
-  pub gather-few : T (not (ltb 128 (length table))) → rows_into ws table (length table) ≡ gathered_into ws table
+  pub gather-few : length table ≤ 128 → rows_into ws table (length table) ≡ gathered_into ws table
   unfolding gathered_into
-  gather-few h = both (ltb 128 (length table)) h
-    where
-      both : (t : Bool) → T (not t) → rows_into ws table (length table) ≡ cond t ws (rows_into ws table (length table))
-      both true z = absurd z
-      both false z = refl
+  gather-few h = rw (le-ltb 128 (length table) h)
 
 -- what stands in the rows is what was put there
 bit-back : (b : Bool) → eqb (bit b) 1 ≡ b

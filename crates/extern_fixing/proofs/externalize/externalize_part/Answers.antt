@@ -13,4 +13,9 @@ slice_bounds-write_type-end c = part_length c.args.t.now c.externalize_type.new.
 
 pub returns-in-Refused : goal.returns-in-Refused
 returns-in-Refused c =
-    stays _ _ _ _ (not-allowed _ _ _ _ _ c.is_wellformed.ensures (ap not c.if-not-is_wellformed.false) _ _ _ c.externalize_type.ensures.answer c.number-1.given.1)
+    stays _ _ _ _ (not-allowed _ _ _ _ _ c.is_wellformed.ensures (ap not c.if-not-is_wellformed.false) _ _ _ c.externalize_type.ensures.answer c.in-Refused.is)
+
+pub returns-in-Good : goal.returns-in-Good
+returns-in-Good c =
+    let made = copied c.args.t.now _ c.externalize_type.new.1.1.0 _ _ _ c.requires.0.whole room c.externalize_type.ensures.answer c.in-Good.is c.externalize_type.ensures.buffer in
+    carried _ _ _ _ _ (allowed _ _ _ _ _ c.is_wellformed.ensures (ap not c.if-not-is_wellformed.false) _ made) c.write_type.ensures

@@ -1,0 +1,15 @@
+use borrow.Author.Rules.{rules}
+use Prim.Native.Nat.{◌-◌}
+use mathlib.Core.Path.{◌≡◌}
+use lib.ListN.{drop}
+use Rattle.type_layers.specs.Answer.{given}
+use Rattle.sheet_contents.specs.Contents.{types}
+use Rattle.sheet_read.specs.Sheet.{check_all, read_words}
+use Rattle.sheet_read.proofs.Checking.{no-sheet, check-begin, refused-here, check-more, check-end}
+use Rattle.sheet_read.proofs.reading.read_words.Given as goal
+
+abbrev pub invariant-loop-k : goal.invariant-loop-k
+invariant-loop-k l = check_all (drop l.k (types l.words)) (given l.n) ≡ read_words l.words
+
+abbrev pub decreases-loop-k : goal.decreases-loop-k
+decreases-loop-k l = l.n - l.k

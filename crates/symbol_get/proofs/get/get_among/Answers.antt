@@ -1,0 +1,6 @@
+use borrow.Author.Rules.{rules}
+use Rattle.symbol_get.proofs.Found.{told_of, found_of}
+use Rattle.symbol_get.proofs.get.get_among.Goals as goal
+
+pub returns : goal.returns
+returns c = (search told_of, search found_of)

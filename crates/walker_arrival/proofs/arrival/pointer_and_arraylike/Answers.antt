@@ -1,0 +1,6 @@
+use borrow.Author.Rules.{rules}
+use Rattle.type_builders.proofs.Joined.{two}
+use Rattle.walker_arrival.proofs.arrival.pointer_and_arraylike.Goals as goal
+
+pub returns : goal.returns
+returns c = search two
