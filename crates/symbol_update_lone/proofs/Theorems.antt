@@ -97,16 +97,12 @@ module _ (s : Symbol) (ws : List ℕ) (id : ℕ) (authority : Bool) (place : ℕ
 abbrev pub quiet : Answer → Bool
 quiet a = not (eqb a.refusal 0) || eqb a.value 0
 
-silent : (a : Answer) → T (quiet a) → a.refusal ≡ 0 → a.value ≡ 0
-silent a q e = by_value (eqb a.value 0) refl (rw e at q)
-  where
-    by_value : (t : Bool) → eqb a.value 0 ≡ t → T t → a.value ≡ 0
-    by_value true f g = eqb-true a.value 0 f
-    by_value false f g = absurd g
+silent : (a : Answer) → quiet a ≡ true → a.refusal ≡ 0 → a.value ≡ 0
+silent a q e = eqb-true a.value 0 (rw e at q)
 
 pub still : (s : Symbol) (ws : List ℕ) (id : ℕ) (authority : Bool) (place : ℕ) (offered : List ℕ) (r : Updated) →
-    r ≡ lone_updated s ws id authority place offered → T (quiet r.answer) → s ≡ r.symbol
+    r ≡ lone_updated s ws id authority place offered → quiet r.answer ≡ true → s ≡ r.symbol
 still s ws id authority place offered r e q =
     let same = ap (λ (u : Updated). u.answer) e in
-    sym (lone-unchanged s ws id authority place offered (silent (lone_updated s ws id authority place offered).answer (subst (λ (a : Answer). T (quiet a)) same q))).0
+    sym (lone-unchanged s ws id authority place offered (silent (lone_updated s ws id authority place offered).answer (subst (λ (a : Answer). quiet a ≡ true) same q))).0
     ∙ sym (ap (λ (u : Updated). u.symbol) e)

@@ -4,8 +4,7 @@ ghost use Rattle.write_answer.specs.Flat as rules;
 
 use write_answer::Answer;
 
-#[unsafe(no_mangle)]
-pub extern "C" fn tj_fix_type_for_flags(
+pub fn tj_fix_type_for_flags(
     t: &[u64],
     external: bool,
     context: u64,

@@ -8,8 +8,7 @@ use symbol_columns::Symbol;
 use walker_run::walk;
 use write_answer::Answer;
 
-#[unsafe(no_mangle)]
-pub extern "C" fn tj_autoderef<'a>(
+pub fn tj_autoderef<'a>(
     known: &'a [u64],
     asked: &[u64],
     target: &'a [u64],
@@ -28,8 +27,7 @@ pub extern "C" fn tj_autoderef<'a>(
     autoderef(known, asked, target, level, rounds, table, store, steps, ty)
 }
 
-#[unsafe(no_mangle)]
-pub extern "C" fn tj_walk<'a>(
+pub fn tj_walk<'a>(
     known: &'a [u64],
     steps: &[u64],
     address: bool,

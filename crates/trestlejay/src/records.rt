@@ -10,8 +10,7 @@ use symbol_operations::{Declared, Offer};
 use symbols::{forward_declare_symbol, get_symbol, poison_symbol, put_symbol};
 use write_answer::Answer;
 
-#[unsafe(no_mangle)]
-pub extern "C" fn tj_update_symbol(
+pub fn tj_update_symbol(
     symbol: &mut Symbol,
     words: &mut [u64],
     id: u32,
@@ -26,8 +25,7 @@ pub extern "C" fn tj_update_symbol(
     symbol_update_lone::do_update_symbol(symbol, words, id, authority, place, offered)
 }
 
-#[unsafe(no_mangle)]
-pub extern "C" fn tj_put_nothing(
+pub fn tj_put_nothing(
     table: &mut [Symbol],
     store: &mut [u64],
     id: u32,
@@ -51,8 +49,7 @@ pub extern "C" fn tj_put_nothing(
     )
 }
 
-#[unsafe(no_mangle)]
-pub extern "C" fn tj_put_type(
+pub fn tj_put_type(
     table: &mut [Symbol],
     store: &mut [u64],
     id: u32,
@@ -67,8 +64,7 @@ pub extern "C" fn tj_put_type(
     put_symbol(table, store, Offer::Type, id, authority, place, 0, offered)
 }
 
-#[unsafe(no_mangle)]
-pub extern "C" fn tj_put_poison(
+pub fn tj_put_poison(
     table: &mut [Symbol],
     store: &mut [u64],
     id: u32,
@@ -83,8 +79,7 @@ pub extern "C" fn tj_put_poison(
     poison_symbol(table, store, id, authority, place, mark)
 }
 
-#[unsafe(no_mangle)]
-pub extern "C" fn tj_forward_declare_type(
+pub fn tj_forward_declare_type(
     table: &mut [Symbol],
     store: &mut [u64],
     id: u32,
@@ -108,8 +103,7 @@ pub extern "C" fn tj_forward_declare_type(
     )
 }
 
-#[unsafe(no_mangle)]
-pub extern "C" fn tj_forward_declare_poison(
+pub fn tj_forward_declare_poison(
     table: &mut [Symbol],
     store: &mut [u64],
     id: u32,
@@ -134,8 +128,7 @@ pub extern "C" fn tj_forward_declare_poison(
     )
 }
 
-#[unsafe(no_mangle)]
-pub extern "C" fn tj_get_symbol(
+pub fn tj_get_symbol(
     table: &[Symbol],
     store: &[u64],
     id: u32,

@@ -22,8 +22,7 @@ fn told(yes: bool) -> Answer
     if yes { accepted(1) } else { accepted(0) }
 }
 
-#[unsafe(no_mangle)]
-pub extern "C" fn tj_identical(a: &[u64], b: &[u64]) -> Answer
+pub fn tj_identical(a: &[u64], b: &[u64]) -> Answer
     ensures { result ≡ flat (relation_answer Relation.Identical a.now b.now) }
 {
     if are_types(a, b) {
@@ -32,8 +31,7 @@ pub extern "C" fn tj_identical(a: &[u64], b: &[u64]) -> Answer
     verdict(relation_questions::relates(Relation::Identical, a, b))
 }
 
-#[unsafe(no_mangle)]
-pub extern "C" fn tj_equals(a: &[u64], b: &[u64]) -> Answer
+pub fn tj_equals(a: &[u64], b: &[u64]) -> Answer
     ensures { result ≡ flat (relation_answer Relation.Equals a.now b.now) }
 {
     if are_types(a, b) {
@@ -42,8 +40,7 @@ pub extern "C" fn tj_equals(a: &[u64], b: &[u64]) -> Answer
     verdict(relation_questions::relates(Relation::Equals, a, b))
 }
 
-#[unsafe(no_mangle)]
-pub extern "C" fn tj_is_like(a: &[u64], b: &[u64]) -> Answer
+pub fn tj_is_like(a: &[u64], b: &[u64]) -> Answer
     ensures { result ≡ flat (relation_answer Relation.Like a.now b.now) }
 {
     if are_types(a, b) {
@@ -52,8 +49,7 @@ pub extern "C" fn tj_is_like(a: &[u64], b: &[u64]) -> Answer
     verdict(relation_questions::relates(Relation::Like, a, b))
 }
 
-#[unsafe(no_mangle)]
-pub extern "C" fn tj_can_be_declared_as(a: &[u64], b: &[u64]) -> Answer
+pub fn tj_can_be_declared_as(a: &[u64], b: &[u64]) -> Answer
     ensures { result ≡ flat (relation_answer Relation.DeclaredAs a.now b.now) }
 {
     if are_types(a, b) {
@@ -62,8 +58,7 @@ pub extern "C" fn tj_can_be_declared_as(a: &[u64], b: &[u64]) -> Answer
     verdict(relation_questions::relates(Relation::DeclaredAs, a, b))
 }
 
-#[unsafe(no_mangle)]
-pub extern "C" fn tj_can_be_concretization_of(a: &[u64], b: &[u64]) -> Answer
+pub fn tj_can_be_concretization_of(a: &[u64], b: &[u64]) -> Answer
     ensures { result ≡ flat (relation_answer Relation.ConcretizationOf a.now b.now) }
 {
     if are_types(a, b) {
@@ -81,8 +76,7 @@ fn coercion_told(answer: CoercionAnswer) -> Answer
     }
 }
 
-#[unsafe(no_mangle)]
-pub extern "C" fn tj_coerces(a: &[u64], b: &[u64]) -> Answer
+pub fn tj_coerces(a: &[u64], b: &[u64]) -> Answer
     ensures { result ≡ flat (coercion_answer a.now b.now) }
 {
     if are_types(a, b) {
@@ -91,8 +85,7 @@ pub extern "C" fn tj_coerces(a: &[u64], b: &[u64]) -> Answer
     coercion_told(relation_questions::coerces(a, b))
 }
 
-#[unsafe(no_mangle)]
-pub extern "C" fn tj_can_autoderef_into(a: &[u64], b: &[u64]) -> Answer
+pub fn tj_can_autoderef_into(a: &[u64], b: &[u64]) -> Answer
     ensures { result ≡ flat (relation_answer Relation.Autoderefs a.now b.now) }
 {
     if are_types(a, b) {
@@ -101,8 +94,7 @@ pub extern "C" fn tj_can_autoderef_into(a: &[u64], b: &[u64]) -> Answer
     verdict(relation_questions::relates(Relation::Autoderefs, a, b))
 }
 
-#[unsafe(no_mangle)]
-pub extern "C" fn tj_can_subautoderef_into(a: &[u64], b: &[u64]) -> Answer
+pub fn tj_can_subautoderef_into(a: &[u64], b: &[u64]) -> Answer
     ensures { result ≡ flat (relation_answer Relation.Subautoderefs a.now b.now) }
 {
     if are_types(a, b) {

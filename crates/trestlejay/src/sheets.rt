@@ -4,8 +4,7 @@ ghost use Rattle.write_answer.specs.Flat.{flat};
 
 use write_answer::{Answer, checked};
 
-#[unsafe(no_mangle)]
-pub extern "C" fn tj_read_sheet(sheet: &[u8]) -> Answer
+pub fn tj_read_sheet(sheet: &[u8]) -> Answer
     ensures { result ≡ flat (read_sheet sheet.now) }
 {
     checked(sheet_read::read_sheet(sheet))

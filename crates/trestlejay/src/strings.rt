@@ -17,16 +17,14 @@ fn hand_out(t: &[u64], out: &mut [u64]) -> Answer
     checked(write_type(out, &t[..0], t))
 }
 
-#[unsafe(no_mangle)]
-pub extern "C" fn tj_for_string_literal(length: u64, out: &mut [u64]) -> Answer
+pub fn tj_for_string_literal(length: u64, out: &mut [u64]) -> Answer
     ensures answer { result ≡ rules.flat (answer_in out.old (given (string_literal length))) }
     ensures written { out.new ≡ buffer_in out.old (given (string_literal length)) }
 {
     hand_out(&for_string_literal(length), out)
 }
 
-#[unsafe(no_mangle)]
-pub extern "C" fn tj_for_string_slice(out: &mut [u64]) -> Answer
+pub fn tj_for_string_slice(out: &mut [u64]) -> Answer
     ensures answer { result ≡ rules.flat (answer_in out.old (given string_slice)) }
     ensures written { out.new ≡ buffer_in out.old (given string_slice) }
 {

@@ -1,5 +1,3 @@
-use Prim.Native.Nat.{ℕ}
-use lib.ListN.{length}
 use borrow.Author.Rules.{rules}
 use Rattle.type_layers.proofs.Words.{shorter}
 use Rattle.extern_fixing.proofs.Externalizing.{no-layer, kept-as-it-is, refused-here, refused-inside, made_inside, room-inside}
@@ -8,10 +6,10 @@ use mathlib.Core.Bool.{not}
 use Rattle.extern_fixing.proofs.externalize.+externalize_type.Goals as goal
 
 pub returns-then-t-lt3-clause-answer : goal.returns-then-t-lt3-clause-answer
-returns-then-t-lt3-clause-answer t c = (no-layer _ _ _ c.if-t-lt3.true).0
+returns-then-t-lt3-clause-answer t c = (no-layer _ _ c.args.made.now c.if-t-lt3.true).0
 
 pub returns-then-t-lt3-clause-buffer : goal.returns-then-t-lt3-clause-buffer
-returns-then-t-lt3-clause-buffer t c = (no-layer _ _ _ c.if-t-lt3.true).1
+returns-then-t-lt3-clause-buffer t c = (no-layer _ _ c.args.made.now c.if-t-lt3.true).1
 
 pub returns-then-is_kept-clause-answer : goal.returns-then-is_kept-clause-answer
 returns-then-is_kept-clause-answer t c =
@@ -23,11 +21,11 @@ returns-then-is_kept-clause-buffer t c =
 
 pub returns-then-not-goes_inside-clause-answer : goal.returns-then-not-goes_inside-clause-answer
 returns-then-not-goes_inside-clause-answer t c =
-    (refused-here _ _ _ c.if-t-lt3.false _ c.is_kept.ensures c.if-is_kept.false _ c.goes_inside.ensures (ap not c.if-not-goes_inside.true)).0
+    (refused-here _ _ c.args.made.now c.if-t-lt3.false _ c.is_kept.ensures c.if-is_kept.false _ c.goes_inside.ensures (ap not c.if-not-goes_inside.true)).0
 
 pub returns-then-not-goes_inside-clause-buffer : goal.returns-then-not-goes_inside-clause-buffer
 returns-then-not-goes_inside-clause-buffer t c =
-    (refused-here _ _ _ c.if-t-lt3.false _ c.is_kept.ensures c.if-is_kept.false _ c.goes_inside.ensures (ap not c.if-not-goes_inside.true)).1
+    (refused-here _ _ c.args.made.now c.if-t-lt3.false _ c.is_kept.ensures c.if-is_kept.false _ c.goes_inside.ensures (ap not c.if-not-goes_inside.true)).1
 
 pub overflow_add-place : goal.overflow_add-place
 overflow_add-place t c = search (rules, c.requires.near)

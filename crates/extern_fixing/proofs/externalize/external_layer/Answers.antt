@@ -1,4 +1,3 @@
-use borrow.Author.Rules.{rules}
 use borrow.Author.Tests.{eq-eqb, ne_eqb}
 use Rattle.type_layers.proofs.Decide.{yes, no}
 use Rattle.extern_fixing.proofs.externalize.external_layer.Goals as goal

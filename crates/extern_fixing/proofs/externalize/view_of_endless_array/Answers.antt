@@ -1,4 +1,3 @@
-use borrow.Author.Rules.{rules}
 use Rattle.type_builders.proofs.Joined.{two}
 use Rattle.extern_fixing.proofs.externalize.view_of_endless_array.Goals as goal
 

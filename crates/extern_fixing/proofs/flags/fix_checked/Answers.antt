@@ -1,4 +1,3 @@
-use borrow.Author.Rules.{rules}
 use mathlib.Core.Path.{ap}
 use Rattle.write_type.specs.Outcome.{delivered}
 use Rattle.write_type.proofs.Outcomes.{carried, stays}

@@ -1,4 +1,3 @@
-use borrow.Author.Rules.{rules}
 use Rattle.extern_fixing.specs.Answers.{fixed_answer, fixed_buffer}
 use Rattle.write_type.proofs.Outcomes.{carried, stays}
 use Rattle.extern_fixing.proofs.Fixes.{checked-whole, unchecked, checked}
@@ -10,11 +9,11 @@ fix_checked-requires c = checked-whole _ _ _ c.check_type.ensures c.in-Good.is
 
 pub returns-in-Refused-clause-answer : goal.returns-in-Refused-clause-answer
 unfolding fixed_answer fixed_buffer
-returns-in-Refused-clause-answer c = (stays _ _ _ _ (unchecked _ _ _ _ _ c.check_type.ensures _ _ c.in-Refused.is)).0
+returns-in-Refused-clause-answer c = (stays _ _ _ c.args.out.now (unchecked _ _ _ _ _ c.check_type.ensures _ _ c.in-Refused.is)).0
 
 pub returns-in-Refused-clause-buffer : goal.returns-in-Refused-clause-buffer
 unfolding fixed_answer fixed_buffer
-returns-in-Refused-clause-buffer c = (stays _ _ _ _ (unchecked _ _ _ _ _ c.check_type.ensures _ _ c.in-Refused.is)).1
+returns-in-Refused-clause-buffer c = (stays _ _ _ c.args.out.now (unchecked _ _ _ _ _ c.check_type.ensures _ _ c.in-Refused.is)).1
 
 pub returns-in-Good-clause-answer : goal.returns-in-Good-clause-answer
 unfolding fixed_answer fixed_buffer

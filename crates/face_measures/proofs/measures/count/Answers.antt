@@ -1,4 +1,3 @@
-use borrow.Author.Rules.{rules}
 use Rattle.write_answer.specs.Flat.{flat}
 use Rattle.face_measures.proofs.Variants.{of-count}
 use Rattle.face_measures.proofs.measures.count.Goals as goal

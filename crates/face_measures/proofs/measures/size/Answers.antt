@@ -1,4 +1,3 @@
-use borrow.Author.Rules.{rules}
 use Rattle.face_measures.specs.Measured as rules
 use Rattle.face_measures.proofs.Variants.{of_size_lem, size-after}
 use Rattle.face_measures.proofs.measures.size.Goals as goal

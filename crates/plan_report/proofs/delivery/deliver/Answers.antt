@@ -24,12 +24,12 @@ slice_bounds-write_words-end-2 c =
 
 pub slice_bounds-write_words-count : goal.slice_bounds-write_words-count
 slice_bounds-write_words-count c =
-    omega (arith, c.write_words-2.auto.0, second_fits (length c.args.steps.now) (4 * c.args.m) (length c.args.ty.now) (3 * c.args.e.lead + length c.args.body.now) c.if-steps-most.false)
+    omega (arith, second_fits (length c.args.steps.now) (4 * c.args.m) (length c.args.ty.now) (3 * c.args.e.lead + length c.args.body.now) c.if-steps-most.false)
 
 pub slice_bounds-write_words-start : goal.slice_bounds-write_words-start
 slice_bounds-write_words-start c =
-    omega (arith, c.write_words-2.auto.0, second_fits (length c.args.steps.now) (4 * c.args.m) (length c.args.ty.now) (3 * c.args.e.lead + length c.args.body.now) c.if-steps-most.false)
+    omega (arith, second_fits (length c.args.steps.now) (4 * c.args.m) (length c.args.ty.now) (3 * c.args.e.lead + length c.args.body.now) c.if-steps-most.false)
 
 pub returns : goal.returns
 returns c =
-    wrote c.args.buf.now c.args.m c.args.taken c.args.e c.args.body.now c.args.steps.now c.args.ty.now c.requires.0 c.requires.1 h f _ _ _ _ (second_fits (length c.args.steps.now) (4 * c.args.m) (length c.args.ty.now) (3 * c.args.e.lead + length c.args.body.now) f) (some-pointers c.pointers-front.result c.args.e.lead c.pointers-front.ensures (omega (arith, h))) c.write_words.ensures c.write_words-2.ensures c.write_words-3.ensures
+    wrote c.args.buf.now c.args.m c.args.taken c.args.e c.args.body.now c.args.steps.now c.args.ty.now c.requires.0 c.requires.1 c.if-words-gt-TYPE_WORDS.false c.if-steps-most.false _ _ _ _ (second_fits (length c.args.steps.now) (4 * c.args.m) (length c.args.ty.now) (3 * c.args.e.lead + length c.args.body.now) c.if-steps-most.false) (some-pointers c.pointers-front.result c.args.e.lead c.pointers-front.ensures (omega (arith, c.if-words-gt-TYPE_WORDS.false))) c.write_words.ensures c.write_words-2.ensures c.write_words-3.ensures

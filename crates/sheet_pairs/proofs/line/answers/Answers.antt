@@ -1,4 +1,3 @@
-use borrow.Author.Rules.{rules}
 use Rattle.relation_coerces.proofs.Reading.{read-value, read-address}
 use Rattle.sheet_pairs.specs.Text.{answers}
 use Rattle.sheet_pairs.proofs.line.answers.Goals as goal

@@ -1,8 +1,7 @@
-use borrow.Author.Rules.{rules}
 use Prim.Native.Nat.{◌-◌}
 use Rattle.sheet_contents.specs.Contents.{types}
 use Rattle.sheet_pairs.proofs.Rows.{Going}
-use Rattle.sheet_pairs.proofs.Texts.{line_of, row-begin, row_room, row_on, row_same, row-end}
+use Rattle.sheet_pairs.proofs.Texts.{line_of}
 use Rattle.sheet_pairs.proofs.pairs_table.put_row.Given as goal
 
 abbrev pub invariant-loop-j : goal.invariant-loop-j

@@ -1,9 +1,7 @@
-use borrow.Author.Rules.{rules}
 use Prim.Native.Nat.{◌-◌}
 use Rattle.sheet_contents.specs.Contents.{types}
 use Rattle.sheet_pairs.specs.Text.{row}
 use Rattle.sheet_pairs.proofs.Rows.{Going}
-use Rattle.sheet_pairs.proofs.Texts.{table-begin, table-room, table_on, table_same, table-end}
 use Rattle.sheet_pairs.proofs.pairs_table.put_rows.Given as goal
 
 abbrev pub invariant-loop-i : goal.invariant-loop-i

@@ -1,0 +1,6 @@
+use borrow.Author.Rules.{rules}
+use Rattle.plan_rounds.proofs.Reading.{turned}
+use Rattle.plan_rounds.proofs.round.turn_at.Goals as goal
+
+pub returns : goal.returns
+returns c = search turned

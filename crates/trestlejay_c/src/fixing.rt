@@ -1,0 +1,18 @@
+ghost use Rattle.std.specs.Prelude.{◌≡◌};
+ghost use Rattle.extern_fixing.specs.Answers.{fixed_answer, fixed_buffer};
+ghost use Rattle.write_answer.specs.Flat as rules;
+
+use trestlejay::{Answer};
+
+#[unsafe(no_mangle)]
+pub extern "C" fn tj_fix_type_for_flags(
+    t: &[u64],
+    external: bool,
+    context: u64,
+    out: &mut [u64],
+) -> Answer
+    ensures answer { result ≡ rules.flat (fixed_answer t.now external context out.old) }
+    ensures written { out.new ≡ fixed_buffer t.now external context out.old }
+{
+    trestlejay::tj_fix_type_for_flags(t, external, context, out)
+}
