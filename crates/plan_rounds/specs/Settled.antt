@@ -2,7 +2,7 @@
 use Rattle.std.specs.Prelude.{List, ◌++◌, ℕ}
 use Rattle.type_layers.specs.Layers.{Layer}
 use Rattle.type_layers.specs.Answer.{Answer, given, nothing, refused}
-use Rattle.plan_steps.specs.Steps.{Step, steps}
+use Rattle.plan_steps.specs.Steps.{Step}
 use Rattle.plan_settling.specs.Settling.{Settled, settle}
 use Rattle.plan_report.specs.Plan.{Plan, narrow}
 use Rattle.plan_rounds.specs.Rounds.{Rounds, ended, stopped}

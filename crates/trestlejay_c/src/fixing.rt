@@ -2,7 +2,7 @@ ghost use Rattle.std.specs.Prelude.{◌≡◌};
 ghost use Rattle.extern_fixing.specs.Answers.{fixed_answer, fixed_buffer};
 ghost use Rattle.write_answer.specs.Flat as rules;
 
-use trestlejay::{Answer};
+use trestlejay::Answer;
 
 #[unsafe(no_mangle)]
 pub extern "C" fn tj_fix_type_for_flags(

@@ -6,7 +6,7 @@ ghost use Rattle.type_stored_size.specs.StoredSize.{stored_size_answer};
 ghost use Rattle.write_answer.specs.Flat.{flat};
 ghost use Rattle.face_measures.specs.Measured as rules;
 
-use trestlejay::{Answer};
+use trestlejay::Answer;
 
 #[unsafe(no_mangle)]
 pub extern "C" fn tj_pointer_depth(t: &[u64]) -> Answer

@@ -1,8 +1,9 @@
 ghost use Rattle.std.specs.Prelude.{◌≡◌};
+ghost use Rattle.type_part_starts.specs.declared.part_starts.Part.TheVariants as Part;
 ghost use Rattle.type_part_starts.specs.PartStarts.{start_answer};
 ghost use Rattle.write_answer.specs.Flat.{flat};
 
-use trestlejay::{Answer};
+use trestlejay::Answer;
 
 #[unsafe(no_mangle)]
 pub extern "C" fn tj_get_element_type(t: &[u64]) -> Answer

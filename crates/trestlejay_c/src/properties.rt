@@ -1,10 +1,11 @@
 ghost use Rattle.std.specs.Prelude.{◌≡◌};
+ghost use Rattle.type_properties.specs.declared.properties.Property.TheVariants as Property;
 ghost use Rattle.type_checks.specs.Check.{check_of};
 ghost use Rattle.type_wellformed.specs.WellFormed.{well_formed_answer};
 ghost use Rattle.type_properties.specs.Properties.{property_answer};
 ghost use Rattle.write_answer.specs.Flat.{flat};
 
-use trestlejay::{Answer};
+use trestlejay::Answer;
 
 #[unsafe(no_mangle)]
 pub extern "C" fn tj_check(t: &[u64]) -> Answer

@@ -1,8 +1,9 @@
 ghost use Rattle.std.specs.Prelude.{◌≡◌};
+ghost use Rattle.relation_questions.specs.declared.ask_relation.Relation.TheVariants as Relation;
 ghost use Rattle.relation_questions.specs.Questions.{coercion_answer, relation_answer};
 ghost use Rattle.write_answer.specs.Flat.{flat};
 
-use trestlejay::{Answer};
+use trestlejay::Answer;
 
 #[unsafe(no_mangle)]
 pub extern "C" fn tj_identical(a: &[u64], b: &[u64]) -> Answer

@@ -1,8 +1,9 @@
 ghost use Rattle.std.specs.Prelude.{◌≡◌};
+ghost use Rattle.type_roles.specs.declared.role.Role.TheVariants as Role;
 ghost use Rattle.type_roles.specs.Roles.{role_answer};
 ghost use Rattle.write_answer.specs.Flat.{flat};
 
-use trestlejay::{Answer};
+use trestlejay::Answer;
 
 #[unsafe(no_mangle)]
 pub extern "C" fn tj_can_be_sized(t: &[u64]) -> Answer

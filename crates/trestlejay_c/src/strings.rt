@@ -4,7 +4,7 @@ ghost use Rattle.type_builders.specs.Strings.{string_literal, string_slice};
 ghost use Rattle.write_type.specs.Outcome.{answer_in, buffer_in};
 ghost use Rattle.write_answer.specs.Flat as rules;
 
-use trestlejay::{Answer};
+use trestlejay::Answer;
 
 #[unsafe(no_mangle)]
 pub extern "C" fn tj_for_string_literal(length: u64, out: &mut [u64]) -> Answer

@@ -1,9 +1,7 @@
-use mathlib.Core.Path.{◌≡◌, refl}
+use mathlib.Core.Path.{◌≡◌}
 use Prim.Native.Nat.{◌-◌, ◌*◌, ◌+◌, ◌≤◌}
-use native.Mathlib.Omega.{arith}
 use lib.ListN.{length}
-use borrow.Author.Rules.{rules}
-use Rattle.plan_rounds.proofs.Pushing.{Autos, autos-start, autos-more, autos-end}
+use Rattle.plan_rounds.proofs.Pushing.{Autos}
 use Rattle.plan_rounds.proofs.finish.push_autos.Given as goal
 
 abbrev pub invariant-loop-i : goal.invariant-loop-i

@@ -1,4 +1,3 @@
-use borrow.Author.Rules.{rules}
 use Rattle.plan_rounds.proofs.Reading.{stuck, through, one-layer, two-layers, desliced, to-member}
 use Rattle.plan_rounds.proofs.round.onto.Goals as goal
 

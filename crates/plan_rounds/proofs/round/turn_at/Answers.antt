@@ -1,4 +1,3 @@
-use borrow.Author.Rules.{rules}
 use Rattle.plan_rounds.proofs.Reading.{turned}
 use Rattle.plan_rounds.proofs.round.turn_at.Goals as goal
 

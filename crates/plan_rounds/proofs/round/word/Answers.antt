@@ -1,4 +1,3 @@
-use borrow.Author.Rules.{rules}
 use Rattle.plan_rounds.proofs.Reading.{past}
 use Rattle.plan_rounds.proofs.round.word.Goals as goal
 

@@ -1,4 +1,3 @@
-use borrow.Author.Rules.{rules}
 use Rattle.plan_rounds.proofs.Reading.{to_end, to-end-past}
 use Rattle.plan_rounds.proofs.rounds.after.Goals as goal
 

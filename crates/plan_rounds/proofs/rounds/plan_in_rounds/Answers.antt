@@ -1,12 +1,14 @@
-use mathlib.Core.Logic.{⊎_elim, inl, inr}
-use Prim.Native.Nat.{◌-◌}
+use mathlib.Core.Logic.{◌⊎◌, inl, inr}
+use Prim.Native.Nat.{◌≤◌, ◌<◌}
+use lib.ListN.{length}
 use borrow.Author.Rules.{rules}
-use Rattle.symbol_members.specs.AsCoded.{member_in}
 use Rattle.plan_rounds.proofs.Reading.{none-fits, auto-fits, element-fits, desliced-fits, no_member, ill-formed, member-fits}
-use Rattle.plan_rounds.proofs.Looping.{Along, along-start, one_at_most, full, here-whole, push-room, few-steps, end-room, taken-fits, told-end, steps-end, type-end, told-refusal, steps-stay, type-stays, along-turn}
+use Rattle.plan_rounds.proofs.Looping.{along-start, one_at_most, full, here-whole, push-room, few-steps, end-room, taken-fits, told-end, steps-end, type-end, told-refusal, steps-stay, type-stays, along-turn}
 use Rattle.std.proofs.Common.{ap}
 use mathlib.Core.Bool.{not}
 use Rattle.plan_rounds.proofs.rounds.plan_in_rounds.Goals as goal
+use Rattle.plan_rounds.proofs.rounds.plan_in_rounds.Goals.{in-Auto, in-Element, in-Desliced, in-Member+else-next-lt3+else-not-is_wellformed}
+use Rattle.plan_rounds.proofs.rounds.plan_in_rounds.Goals.{else-loop-i-test, then-loop-i-test+then-rest-lt4}
 
 pub loop-i-init : goal.loop-i-init
 loop-i-init c = search along-start
@@ -40,13 +42,17 @@ after-left-requires c = search one_at_most
 
 pub loop-i-preserved : goal.loop-i-preserved
 loop-i-preserved c =
-    ⊎_elim (λ w. let g = auto-fits t next w.1.given.0.0 w.1.given.1 in search (along-turn, g, so, all, rules))
-    (λ w.
-    ⊎_elim (λ w. let g = element-fits t next w.1.given.0.0 w.1.given.0.1.0 w.1.given.1 in search (along-turn, g, so, all, rules))
-    (λ w.
-    ⊎_elim (λ w. let g = desliced-fits t next w.1.given.0.0 w.1.given.1 in search (along-turn, g, so, all, rules))
-    (λ w. let g = member-fits t next w.1.given.1 w.2.left w.3.result w.3.ensures w.4.left in search (along-turn, g, so, all, rules)) w) w)
-    c.match-t.branch
+    let t = c.turn_at-t.result in
+    let next = c.onto-next.result.now in
+    let so = c.loop-i.invariant in
+    let all = c.requires.all_whole in
+    elim c.match-t.branch [
+      | in-Auto w ↦ let g = auto-fits t next w.in-Auto.field-0 w.in-Auto.is in search (along-turn, g, so, all, rules)
+      | in-Element w ↦ let g = element-fits t next w.in-Element.mark w.in-Element.layers w.in-Element.is in search (along-turn, g, so, all, rules)
+      | in-Desliced w ↦ let g = desliced-fits t next w.in-Desliced.field-0 w.in-Desliced.is in search (along-turn, g, so, all, rules)
+      | in-Member+else-next-lt3+else-not-is_wellformed w ↦
+          let g = member-fits t next w.in-Member.is w.if-next-lt3.false w.is_wellformed.result w.is_wellformed.ensures (ap not w.if-not-is_wellformed.false) in search (along-turn, g, so, all, rules)
+    ]
 
 pub slice_bounds-finish-end : goal.slice_bounds-finish-end
 slice_bounds-finish-end c = search full
@@ -56,5 +62,6 @@ finish-requires c = (search here-whole, search rules, search rules, search (end-
 
 pub returns : goal.returns
 returns c =
-    let out = ⊎_elim (λ w. inl w.left) (λ w. inr w.1.taken) c.loop-i-test.branch in
+    let out : (c.args.rounds ≤ c.loop-i.i) ⊎ (length c.loop-i.rest.now < 4) =
+    elim c.loop-i-test.branch [ else-loop-i-test w ↦ inl w.loop-i-test.false | then-loop-i-test+then-rest-lt4 w ↦ inr w.if-rest-lt4.true ] in
     (search (told-end, out), (search (steps-end, out), search (type-end, out)))

@@ -1,9 +1,6 @@
-use mathlib.Core.Logic.{⊎_elim, inl, inr}
 use Prim.Native.Nat.{◌-◌}
-use borrow.Author.Rules.{rules}
 use Rattle.symbol_members.specs.AsCoded.{member_in}
-use Rattle.plan_rounds.proofs.Reading.{none-fits, auto-fits, element-fits, desliced-fits, no_member, ill-formed, member-fits}
-use Rattle.plan_rounds.proofs.Looping.{Along, along-start, one_at_most, full, here-whole, push-room, few-steps, end-room, taken-fits, told-end, steps-end, type-end, told-refusal, steps-stay, type-stays, along-turn}
+use Rattle.plan_rounds.proofs.Looping.{Along}
 use Rattle.plan_rounds.proofs.rounds.plan_in_rounds.Given as goal
 
 abbrev pub invariant-loop-i : goal.invariant-loop-i
