@@ -4,6 +4,5 @@ pub mod Words
 pub mod Spelling
 pub mod Given
 pub mod Table
-pub mod Cycle
 pub mod Apart
 pub mod Single
