@@ -1,4 +1,5 @@
-# awk -f tools/retarget.awk HEADER MODULE > RETARGETED: a module that rt made for x86-64, as text, for another machine.
+# awk -f tools/retarget.awk HEADER MODULE > RETARGETED: a module that rt made for x86-64, as text, without what is of
+# x86-64 alone, so that it can be compiled for another machine.
 #
 # What is rewritten, and how often it must be there:
 #   - The line of the layout and that of the triple go: one each.
@@ -45,7 +46,7 @@ FNR == NR { next }
     triples++
     next
 }
-{ processors += gsub(/ "target-cpu"="x86-64"/, "") }
+{ processors += gsub(/ "target-cpu"="x86-64-v2"/, "") }
 
 /^define / && / @tj_/ {
     at = named($0)

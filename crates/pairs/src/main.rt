@@ -1,9 +1,11 @@
 // Program: reads a sheet and prints how each of its types stands to each; `sheet_pairs` makes the text.
 #![tactic(auto)]
 
-ghost use Rattle.std.specs.Prelude.{◌≡◌, length};
+ghost use Rattle.std.specs.Prelude.{◌≡◌, ◌≤◌, IfOk, length};
 
 use sheet_pairs::pairs_text;
+use std::io;
+use std::io::Read;
 use type_numbers::Limit;
 
 // Room for one byte more than the longest sheet has: longer input is then refused.
@@ -13,11 +15,26 @@ fn buffer() -> [u8; Limit::SHEET_BYTES + 1]
     [0; Limit::SHEET_BYTES + 1]
 }
 
+// Reads until the buffer is full or the input ends, and says how many bytes stand in it then.
+fn read_full(input: &mut impl Read, out: &mut [u8]) -> io::Result<usize>
+    ensures { IfOk result (λ n. n ≤ length out.new) }
+{
+    let mut n = 0;
+    while n < out.len() {
+        let read = input.read(&mut out[n..])?;
+        if read == 0 {
+            break;
+        }
+        n += read;
+    }
+    Ok(n)
+}
+
 // All that is printed is made by `pairs_text`; here bytes are only moved.
-fn main() {
+fn main(rt: HostRuntime) -> io::Result<()> {
     let mut sheet = buffer();
-    let n = io::read_full(0, &mut sheet);
+    let n = read_full(&mut rt.stdin(), &mut sheet)?;
     let mut text = [0; Limit::PAIRS_BYTES];
     let size = pairs_text(&sheet[..n], &mut text);
-    io::write_all(1, &text[..size]);
+    rt.write_all(&text[..size])
 }

@@ -258,7 +258,7 @@ module _ (table : List Symbol) (store known asked target : List ℕ) (depth limi
         reported (layers target) (accepted-good target (length target / 3) is-given.target-passes) stored (layers known) (steps asked) depth limit
         (plan_read r b' c') is-given.plan
 
--- A walked function's contract: what it ensures is a fact, and from it follows Then.
+-- A function's contract, taken whole: what it ensures is a fact, and from it follows Then.
 abbrev pub Ensures : {M : Type 1} (𝓤 : Ura M) {R S : Type 0} → (R → S → SProp 𝓤) → (R → S → Type 0) → Type 2
 Ensures 𝓤 {R} {S} ensures Then = (Q : R → S → Type 0) × (((x : R) (s : S) → ensures x s ≡ fact 𝓤 (Q x s)) × ((x : R) (s : S) → Q x s → Then x s))
 

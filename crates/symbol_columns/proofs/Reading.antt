@@ -41,15 +41,15 @@ unfolding read_from
 length-read ws i zero = refl
 length-read ws i (suc n) = ap suc (length-read ws (suc i) n)
 
-pub get_d_read : (ws : List ℕ) (i n k : ℕ) → k < n → get_or (read_from ws i n) k vacant ≡ row_at ws (i + k)
+pub get_or_read : (ws : List ℕ) (i n k : ℕ) → k < n → get_or (read_from ws i n) k vacant ≡ row_at ws (i + k)
 unfolding read_from
-get_d_read ws i zero k h = absurd (not-suc-le-zero h)
-get_d_read ws i (suc n) zero h =
+get_or_read ws i zero k h = absurd (not-suc-le-zero h)
+get_or_read ws i (suc n) zero h =
     let e : i ≡ i + 0 = omega arith in
     ap (row_at ws) e
-get_d_read ws i (suc n) (suc k) h =
+get_or_read ws i (suc n) (suc k) h =
     let e : suc i + k ≡ i + suc k = omega arith in
-    get_d_read ws (suc i) n k (omega arith) ∙ ap (row_at ws) e
+    get_or_read ws (suc i) n k (omega arith) ∙ ap (row_at ws) e
 
 last_row : (ws : List ℕ) (i k : ℕ) → read_from ws i (suc k) ≡ read_from ws i k ++ (row_at ws (i + k) ∷ [])
 unfolding read_from
@@ -78,6 +78,6 @@ pub row-found : (flat : List ℕ) (n id k : ℕ) (s : Symbol) → n ≤ 128 → 
 unfolding row_under row_at
 row-found flat n id k s few h has q =
     let below : k < 128 = omega arith in
-    let here = get_d_read flat 0 n k h ∙ ap (row_at flat) (zero-add k) in
+    let here = get_or_read flat 0 n k h ∙ ap (row_at flat) (zero-add k) in
     let same : get_or flat k 0 ≡ id = sym (ap (λ (x : Symbol). x.id) here) ∙ has in
     (rw (lt-ltb k 128 below) at q) ∙ (λ t. under (sym same t) (row_at flat k)) ∙ sym here

@@ -33,7 +33,7 @@ pub stored-words-single : (κs : Lfts 1) (a : Dens κs stored-words-kinds.ps) (x
     stored-words.Post κs a x s → stored-words.Post κs a y t → x.now ≡ y.now
 stored-words-single κs a x y s t p q = p ∙ sym q
 
--- A walked function's contract: what it ensures is a fact, and of two results of which the fact holds Same holds.
+-- A function's contract, taken whole: what it ensures is a fact, and of two results of which the fact holds Same holds.
 abbrev pub Walked : {M : Type 1} (𝓤 : Ura M) {R S : Type 0} → (R → S → SProp 𝓤) → (R → S → R → S → Type 0) → Type 2
 Walked 𝓤 {R} {S} ensures Same =
     (Q : R → S → Type 0) × (((x : R) (s : S) → ensures x s ≡ fact 𝓤 (Q x s)) × ((x y : R) (s t : S) → Q x s → Q y t → Same x s y t))

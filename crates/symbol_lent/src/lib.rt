@@ -1,4 +1,4 @@
-// A lent run of records gathered into columns; the search by id; what proofs by hand over lent records share.
+// A lent run of records gathered into columns; the search by id.
 #![tactic(auto)]
 
 mod gather_rows;

@@ -19,7 +19,7 @@ use Rattle.symbol_search.specs.Search.{slot_for}
 use Rattle.symbol_search.specs.AsCoded.{slot_in}
 use Rattle.symbol_order.specs.Order.{passes, in_order}
 use Rattle.symbol_columns.specs.declared.symbol.Symbol.{Symbol}
-use Rattle.symbol_columns.proofs.Reading.{get_d_read, length-read}
+use Rattle.symbol_columns.proofs.Reading.{get_or_read, length-read}
 use Rattle.symbol_search.proofs.Searching.{slot_is}
 use Rattle.symbol_order.proofs.Ordered.{ordered, pass-at}
 use Rattle.symbol_members.specs.Members.{words_at, member_words}
@@ -47,7 +47,7 @@ module _ (ws store : List ℕ) (n id : ℕ) where
 
     module _ (e : k < n) where
       here : member_in ws n store id ≡ words_at (row_at ws k) (slot_words store k)
-      here = few ∙ ap (λ (s : Symbol). words_at s (slot_words store k)) (get_d_read ws 0 n k e ∙ ap (row_at ws) (zero-add k))
+      here = few ∙ ap (λ (s : Symbol). words_at s (slot_words store k)) (get_or_read ws 0 n k e ∙ ap (row_at ws) (zero-add k))
 
       pub not-typed : (get_or ws (k + 384) 0 ≡ 1 → ⊥) → take 0 store ≡ member_in ws n store id
       unfolding row_at

@@ -76,6 +76,16 @@ module _ (op : Operation) (id : ℕ) (authority : Bool) (place mark : ℕ) (offe
   store_same =
       swapped table (λ l. store_of op id authority place mark offered l store) store (long-store id authority place mark offered table store op)
 
+  -- what it says of gathered columns, too
+  pub chosen : (flat : List ℕ) (r : Change) (after : List ℕ) → flat ≡ gathered table →
+      (r ≡ change_of op id authority place mark offered (read_from flat 0 (length table)) store)
+      × (after ≡ store_of op id authority place mark offered (read_from flat 0 (length table)) store) →
+      (r ≡ change_of op id authority place mark offered table store) × (after ≡ store_of op id authority place mark offered table store)
+  chosen flat r after g h = (
+    h.0 ∙ ap (λ (ws : List ℕ). change_of op id authority place mark offered (read_from ws 0 (length table)) store) g ∙ change-same,
+    h.1 ∙ ap (λ (ws : List ℕ). store_of op id authority place mark offered (read_from ws 0 (length table)) store) g ∙ store_same,
+  )
+
 -- get
 module _ (id : ℕ) (table : List Symbol) (store : List ℕ) where
   long-got : (authority : Bool) (l : List Symbol) → length l ≡ length table → 128 < length l → got id authority l store ≡ got'.refused 12 0

@@ -10,15 +10,17 @@ mod report;
 mod types;
 mod widths;
 
-fn main() {
-    report::heading();
-    inputs::counts();
-    inputs::kinds();
-    inputs::leaves();
-    inputs::nested();
-    inputs::arrays();
-    widths::widths();
-    bad_words::bad_words();
-    relations::pairs();
-    fixing::fixing();
+use std::io;
+
+fn main(rt: HostRuntime) -> io::Result<()> {
+    report::heading(&rt)?;
+    inputs::counts(&rt)?;
+    inputs::kinds(&rt)?;
+    inputs::leaves(&rt)?;
+    inputs::nested(&rt)?;
+    inputs::arrays(&rt)?;
+    widths::widths(&rt)?;
+    bad_words::bad_words(&rt)?;
+    relations::pairs(&rt)?;
+    fixing::fixing(&rt)
 }

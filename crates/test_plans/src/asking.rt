@@ -3,6 +3,7 @@ use crate::questions::{ASKED, TYPES, asked_at, type_at};
 use crate::report::{given, outcome, text};
 use crate::words::{Words, first, lay, part};
 use planner::{Report, plan_among};
+use std::io;
 
 // What stands in an output before.
 const BEFORE: u64 = 7;
@@ -74,24 +75,30 @@ fn short(n: Numbers, all: &[u64], asked: &[u64], steps: &mut [u64], ty: &mut [u6
 }
 
 // Asks, and writes what became of it.
-pub(crate) fn ask(n: Numbers, known: &[u64], asked: &[u64], target: &[u64]) {
+pub(crate) fn ask(
+    rt: &impl Print,
+    n: Numbers,
+    known: &[u64],
+    asked: &[u64],
+    target: &[u64],
+) -> io::Result<()> {
     let mut all = store();
     lay(&mut all, KNOWN, known);
     lay(&mut all, TARGET, target);
     let mut steps = [BEFORE; 576];
     let mut ty = [BEFORE; 48];
     let r = short(n, &all, asked, &mut steps, &mut ty);
-    outcome(r, &steps, &ty);
+    outcome(rt, r, &steps, &ty)
 }
 
 // A question by its places in the lists.
-pub(crate) fn line(i: usize, j: usize, k: usize, n: Numbers) {
-    io::print_decimal(1, i as u64);
-    given(j as u64);
-    given(k as u64);
-    given(n.level as u64);
-    given(n.rounds);
-    text(b":");
+pub(crate) fn line(rt: &impl Print, i: usize, j: usize, k: usize, n: Numbers) -> io::Result<()> {
+    print!(rt; "{i}")?;
+    given(rt, j as u64)?;
+    given(rt, k as u64)?;
+    given(rt, n.level as u64)?;
+    given(rt, n.rounds)?;
+    text(rt, b":")?;
     let known = type_at(i);
     let asked = asked_at(j);
     let target = type_at(k);
@@ -107,41 +114,45 @@ pub(crate) fn line(i: usize, j: usize, k: usize, n: Numbers) {
         room: n.room,
         wide: n.wide,
     };
-    ask(m, &a, first(&b, asked.count), &c);
+    ask(rt, m, &a, first(&b, asked.count), &c)
 }
 
-fn along_each(i: usize) {
+fn along_each(rt: &impl Print, i: usize) -> io::Result<()> {
     let mut j = 0;
     while j < ASKED {
-        line(i, j, 0, ordinary(0, 64));
+        line(rt, i, j, 0, ordinary(0, 64))?;
         j += 1;
     }
+    Ok(())
 }
 
 // From every type along every run of asked steps, to an Int32.
-pub(crate) fn along() {
+pub(crate) fn along(rt: &impl Print) -> io::Result<()> {
     let mut i = 0;
     while i < TYPES {
-        along_each(i);
+        along_each(rt, i)?;
         i += 1;
     }
+    Ok(())
 }
 
-fn against_each(i: usize) {
+fn against_each(rt: &impl Print, i: usize) -> io::Result<()> {
     let mut k = 0;
     while k < TYPES {
-        line(i, 0, k, ordinary(0, 64));
-        line(i, 0, k, ordinary(1, 64));
-        line(i, 0, k, ordinary(2, 64));
+        line(rt, i, 0, k, ordinary(0, 64))?;
+        line(rt, i, 0, k, ordinary(1, 64))?;
+        line(rt, i, 0, k, ordinary(2, 64))?;
         k += 1;
     }
+    Ok(())
 }
 
 // Every type for every target, at the depths 0 to 2.
-pub(crate) fn settled() {
+pub(crate) fn settled(rt: &impl Print) -> io::Result<()> {
     let mut i = 0;
     while i < TYPES {
-        against_each(i);
+        against_each(rt, i)?;
         i += 1;
     }
+    Ok(())
 }

@@ -9,13 +9,15 @@ mod report;
 mod sweeps;
 mod words;
 
-fn main() {
-    report::heading();
-    asking::along();
-    asking::settled();
-    sweeps::rounds();
-    sweeps::counts();
-    sweeps::rooms();
-    sweeps::deep();
-    sweeps::disorder();
+use std::io;
+
+fn main(rt: HostRuntime) -> io::Result<()> {
+    report::heading(&rt)?;
+    asking::along(&rt)?;
+    asking::settled(&rt)?;
+    sweeps::rounds(&rt)?;
+    sweeps::counts(&rt)?;
+    sweeps::rooms(&rt)?;
+    sweeps::deep(&rt)?;
+    sweeps::disorder(&rt)
 }

@@ -1,40 +1,42 @@
 ghost use Rattle.std.specs.Prelude.{◌<◌};
 
 use planner::Report;
+use std::io;
 
-const OUT: i32 = 1;
-
-pub(crate) fn text(s: &[u8]) {
-    io::write_all(OUT, s);
+pub(crate) fn text(rt: &impl Print, s: &[u8]) -> io::Result<()> {
+    rt.write_all(s)
 }
 
-pub(crate) fn given(n: u64) {
-    text(b" ");
-    io::print_decimal(OUT, n);
+pub(crate) fn given(rt: &impl Print, n: u64) -> io::Result<()> {
+    print!(rt; " {n}")
 }
 
-pub(crate) fn heading() {
-    text(b"known asked target depth rounds: taken address coerced steps type\n");
+pub(crate) fn heading(rt: &impl Print) -> io::Result<()> {
+    text(
+        rt,
+        b"known asked target depth rounds: taken address coerced steps type\n",
+    )
 }
 
 // So many words from the first on, in groups.
-fn words(ws: &[u64], n: usize, group: usize)
+fn words(rt: &impl Print, ws: &[u64], n: usize, group: usize) -> io::Result<()>
     requires { 0 < group }
 {
     let mut i = 0;
     while i < n {
         if i % group == 0 {
-            text(b" |");
+            text(rt, b" |")?;
         }
         if i < ws.len() {
-            given(ws[i]);
+            given(rt, ws[i])?;
         }
         i += 1;
     }
+    Ok(())
 }
 
-fn flag(b: bool) {
-    if b { given(1) } else { given(0) }
+fn flag(rt: &impl Print, b: bool) -> io::Result<()> {
+    if b { given(rt, 1) } else { given(rt, 0) }
 }
 
 fn of_steps(n: u64) -> usize {
@@ -46,21 +48,16 @@ fn of_layers(n: u64) -> usize {
 }
 
 // A plan: what was told, and what was written.
-pub(crate) fn outcome(r: Report, steps: &[u64], ty: &[u64]) {
+pub(crate) fn outcome(rt: &impl Print, r: Report, steps: &[u64], ty: &[u64]) -> io::Result<()> {
     if r.refusal != 0 {
-        text(b" !");
-        io::print_decimal(OUT, r.refusal);
-        text(b"@");
-        io::print_decimal(OUT, r.value);
-        text(b"\n");
-        return;
+        return println!(rt; " !{}@{}", r.refusal, r.value);
     }
-    given(r.taken);
-    flag(r.address);
-    flag(r.coerced);
-    text(b" steps");
-    words(steps, of_steps(r.steps), 4);
-    text(b" type");
-    words(ty, of_layers(r.layers), 3);
-    text(b"\n");
+    given(rt, r.taken)?;
+    flag(rt, r.address)?;
+    flag(rt, r.coerced)?;
+    text(rt, b" steps")?;
+    words(rt, steps, of_steps(r.steps), 4)?;
+    text(rt, b" type")?;
+    words(rt, ty, of_layers(r.layers), 3)?;
+    text(rt, b"\n")
 }

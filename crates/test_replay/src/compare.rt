@@ -6,8 +6,7 @@ use crate::fixing::{FIXING, fixes};
 use crate::planning::{AUTODEREF, WALK, plans, walks};
 use crate::read::line;
 use crate::runs::{after, first, from, run, word};
-
-const OUT: i32 = 1;
+use std::io;
 
 // A question that is lent a table: after the numbers the target, the steps and the table.
 fn agrees(f: u64, a: &[u64], rest: &[u64], stored: &[u64], e: Expected) -> bool {
@@ -66,21 +65,16 @@ fn case_at(s: &[u8], at: usize) -> Case
     }
 }
 
-fn differs(n: u64) {
-    io::write_all(OUT, b"line ");
-    io::print_decimal(OUT, n);
-    io::write_all(OUT, b" differs\n");
+fn differs(rt: &impl Print, n: u64) -> io::Result<()> {
+    println!(rt; "line {n} differs")
 }
 
-fn summary(cases: u64, failed: u64) {
-    io::print_decimal(OUT, cases);
-    io::write_all(OUT, b" answers of the Rust, ");
-    io::print_decimal(OUT, failed);
-    io::write_all(OUT, b" differ\n");
+fn summary(rt: &impl Print, cases: u64, failed: u64) -> io::Result<()> {
+    println!(rt; "{cases} answers of the Rust, {failed} differ")
 }
 
 // Compares every case, and writes how many there were and how many differ.
-pub(crate) fn run_all(s: &[u8]) {
+pub(crate) fn run_all(rt: &impl Print, s: &[u8]) -> io::Result<()> {
     let mut at = 0;
     let mut cases: u64 = 0;
     let mut failed: u64 = 0;
@@ -89,9 +83,9 @@ pub(crate) fn run_all(s: &[u8]) {
         at = c.next;
         cases += 1;
         if !c.same {
-            differs(cases);
+            differs(rt, cases)?;
             failed += 1;
         }
     }
-    summary(cases, failed);
+    summary(rt, cases, failed)
 }

@@ -17,6 +17,8 @@
 // 40 walks from a. b: the address, the words lent, two that are 0, the store's words. Written is the type.
 #![tactic(auto)]
 
+ghost use Rattle.std.specs.Prelude.{◌≤◌, IfOk, length};
+
 mod answer;
 mod changing;
 mod compare;
@@ -26,13 +28,31 @@ mod planning;
 mod read;
 mod runs;
 
+use std::io;
+use std::io::Read;
+
 // Room for the whole list.
 fn buffer() -> [u8; 1048576] {
     [0; 1048576]
 }
 
-fn main() {
+// Reads until the buffer is full or the input ends, and says how many bytes stand in it then.
+fn read_full(input: &mut impl Read, out: &mut [u8]) -> io::Result<usize>
+    ensures { IfOk result (λ n. n ≤ length out.new) }
+{
+    let mut n = 0;
+    while n < out.len() {
+        let read = input.read(&mut out[n..])?;
+        if read == 0 {
+            break;
+        }
+        n += read;
+    }
+    Ok(n)
+}
+
+fn main(rt: HostRuntime) -> io::Result<()> {
     let mut text = buffer();
-    let n = io::read_full(0, &mut text);
-    compare::run_all(&text[..n]);
+    let n = read_full(&mut rt.stdin(), &mut text)?;
+    compare::run_all(&rt, &text[..n])
 }

@@ -1,4 +1,4 @@
--- The third demand, of what people link: the plan that stands in the report and the outputs of `tj_autoderef` meets it, it
+-- The third demand, of the C face: the plan that stands in the report and the outputs of `tj_autoderef` meets it, it
 -- reports what it should, and `tj_walk` accepts it.
 -- Assumes nothing.
 use mathlib.Core.Path.{◌≡◌, refl, ◌∙◌}

@@ -1,4 +1,4 @@
--- Each exported contract allows one answer, and one value behind each pointer that was lent.
+-- Each contract of the C face allows one answer, and one value behind each pointer that was lent.
 -- Assumes nothing.
 use mathlib.Core.Path.{◌≡◌, refl, sym, ◌∙◌}
 use seplogic.Ra.Ura.{Ura}
@@ -188,7 +188,7 @@ pub tj-for-string-slice-single : (κs : Lfts 1) (a : Dens κs of-string-slice.ps
     tj-for-string-slice.Post κs a x s → tj-for-string-slice.Post κs a y t → (x ≡ y) × (s.0.now ≡ t.0.now)
 tj-for-string-slice-single κs a x y s t p q = (p.0 ∙ sym q.0, p.1 ∙ sym q.1)
 
--- The exports on lent symbols and tables, which are proved by hand: the answer, and what was lent as `&mut`.
+-- On lent symbols and tables, by the contracts taken whole: the answer, and what was lent as `&mut`.
 module _ {M : Type 1} {𝓤 : Ura M} (𝓛 : Logic 𝓤) (mem : Memory → SProp 𝓤) (run : Routine → Fun 𝓤) where
   pub tj-update-symbol-single : (κs : Lfts 3) (a : Args tj-update-symbol.signature κs) → Walked 𝓤 ((tj-update-symbol.clauses 𝓛 mem run κs a).ensures tt)
       (λ x s y t. (x ≡ y) × (s.0.now ≡ t.0.now) × (s.1.0.now ≡ t.1.0.now))

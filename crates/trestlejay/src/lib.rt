@@ -1,4 +1,4 @@
-// The C face: each question as an exported function, as `include/trestlejay.h` declares it.
+// The C face: each question as a function, as `include/trestlejay.h` declares it; `trestlejay_c` exports them.
 #![tactic(auto)]
 
 mod fixing;

@@ -1,5 +1,5 @@
 // The three answers of the coercion question.
-#[derive(Drop)]
+#[derive(Clone, Copy)]
 pub struct CoercionNumber(pub u64);
 
 impl CoercionNumber {

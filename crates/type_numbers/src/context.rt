@@ -1,5 +1,5 @@
 // A context of extern fixing, in the order of the rules and not of the Rust's enum.
-#[derive(Drop)]
+#[derive(Clone, Copy)]
 pub struct Context(pub u64);
 
 impl Context {

@@ -1,5 +1,5 @@
 // What an accepted change did.
-#[derive(Drop)]
+#[derive(Clone, Copy)]
 pub struct Effect(pub u64);
 
 impl Effect {

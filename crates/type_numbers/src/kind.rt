@@ -1,5 +1,5 @@
 // A kind of layer: its number.
-#[derive(Drop)]
+#[derive(Clone, Copy)]
 pub struct Kind(pub u64);
 
 impl Kind {

@@ -1,5 +1,5 @@
 // The limits of the rules, and the room that what they allow takes.
-#[derive(Drop)]
+#[derive(Clone, Copy)]
 pub struct Limit(pub u64);
 
 impl Limit {

@@ -1,6 +1,6 @@
 // A step's mark. Of an Element: whether the array is endless. Of an Autodeslice: by view, by pointer, or the length. Of a
 // Member: whether it has an offset.
-#[derive(Drop)]
+#[derive(Clone, Copy)]
 pub struct Mark(pub u64);
 
 impl Mark {

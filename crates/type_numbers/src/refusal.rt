@@ -1,5 +1,5 @@
 // The number of a refusal; the names are those of the C face.
-#[derive(Drop)]
+#[derive(Clone, Copy)]
 pub struct Refusal(pub u64);
 
 impl Refusal {

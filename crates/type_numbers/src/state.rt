@@ -1,5 +1,5 @@
 // The state of a record.
-#[derive(Drop)]
+#[derive(Clone, Copy)]
 pub struct State(pub u64);
 
 impl State {

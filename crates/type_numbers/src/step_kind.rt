@@ -1,5 +1,5 @@
 // A step's kind, its first word; its handle, mark and number follow.
-#[derive(Drop)]
+#[derive(Clone, Copy)]
 pub struct StepKind(pub u64);
 
 impl StepKind {

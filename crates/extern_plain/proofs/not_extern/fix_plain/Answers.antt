@@ -1,4 +1,3 @@
-use borrow.Author.Rules.{rules}
 use mathlib.Core.Path.{ap}
 use Rattle.type_layers.specs.Answer.{given}
 use Rattle.write_type.specs.Outcome.{delivered}

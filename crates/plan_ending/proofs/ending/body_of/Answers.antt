@@ -1,4 +1,3 @@
-use borrow.Author.Rules.{rules}
 use Rattle.plan_ending.proofs.ending.body_of.Goals as goal
 
 pub returns-in-Dereferenced : goal.returns-in-Dereferenced

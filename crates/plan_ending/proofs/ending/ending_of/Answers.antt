@@ -1,4 +1,3 @@
-use borrow.Author.Rules.{rules}
 use Rattle.plan_ending.proofs.Numbers.{same, viewed, coerced, slice-pointer, pointed-to, address-coerced, addressed, dereferenced, not-settled}
 use Rattle.plan_ending.proofs.ending.ending_of.Goals as goal
 

@@ -1,4 +1,3 @@
-use borrow.Author.Rules.{rules}
 use Rattle.type_layers.specs.Layers.{spelled}
 use Rattle.plan_report.proofs.pointers.pointers.Goals as goal
 

@@ -1,6 +1,5 @@
 use Rattle.plan_settling.proofs.Decided.{line-i, line-ii, line-iii, line-iv, line-v, line-vi, line-vii}
 use Rattle.relation_coerces.proofs.Reading.{read-value, read-address}
-use borrow.Author.Rules.{rules}
 use Rattle.plan_settling.proofs.settling.settle.Goals as goal
 
 pub returns-then-plainly-same : goal.returns-then-plainly-same

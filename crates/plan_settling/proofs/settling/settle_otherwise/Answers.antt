@@ -1,6 +1,5 @@
 use native.Mathlib.Omega.{arith}
 use Rattle.plan_settling.proofs.Decided.{too-deep, one_deeper, slice-pointer, fully}
-use borrow.Author.Rules.{rules}
 use Rattle.plan_settling.proofs.settling.settle_otherwise.Goals as goal
 
 pub returns-then-n-p-ge2 : goal.returns-then-n-p-ge2

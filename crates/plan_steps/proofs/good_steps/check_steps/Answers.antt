@@ -1,7 +1,4 @@
-use Prim.Native.Nat.{◌-◌}
-use lib.ListN.{length}
-use Rattle.plan_steps.proofs.Passing.{Passed, start, turn, miscounted, bad, fine}
-use borrow.Author.Rules.{rules}
+use Rattle.plan_steps.proofs.Passing.{start, turn, miscounted, bad, fine}
 use Rattle.std.proofs.Common.{ap}
 use mathlib.Core.Bool.{not}
 use Rattle.plan_steps.proofs.good_steps.check_steps.Goals as goal

@@ -1,7 +1,6 @@
 use Prim.Native.Nat.{◌-◌}
 use lib.ListN.{length}
-use Rattle.plan_steps.proofs.Passing.{Passed, start, turn, miscounted, bad, fine}
-use borrow.Author.Rules.{rules}
+use Rattle.plan_steps.proofs.Passing.{Passed}
 use Rattle.plan_steps.proofs.good_steps.check_steps.Given as goal
 
 abbrev pub invariant-loop-at : goal.invariant-loop-at

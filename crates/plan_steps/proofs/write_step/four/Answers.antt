@@ -1,7 +1,6 @@
 use native.Mathlib.Omega.{arith}
 use lib.ListN.{length-set}
 use Rattle.plan_steps.proofs.Words.{put-short, put-past, put-sets}
-use borrow.Author.Rules.{rules}
 use Rattle.plan_steps.proofs.write_step.four.Goals as goal
 
 pub returns-then-buf-lt4 : goal.returns-then-buf-lt4

@@ -1,5 +1,4 @@
 use Rattle.plan_turn.proofs.Decided.{on-reference, on-element, on-member, on-no-other}
-use borrow.Author.Rules.{rules}
 use Rattle.plan_turn.specs.AsCoded.{of_turn}
 use Rattle.plan_turn.proofs.decide_turn.turn_of.Goals as goal
 

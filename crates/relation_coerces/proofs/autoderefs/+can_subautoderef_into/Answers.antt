@@ -1,5 +1,3 @@
-use Prim.Native.Nat.{ℕ}
-use lib.ListN.{length}
 use borrow.Author.Rules.{rules}
 use Rattle.type_layers.proofs.Words.{shorter}
 use Rattle.relation_coerces.proofs.Dereferences.{sub-none, sub-other, sub_held, sub-equal, sub-inside, sub-apart}

@@ -1,4 +1,3 @@
-use borrow.Author.Rules.{rules}
 use Rattle.relation_coerces.proofs.Reading.{read-value, read-address}
 use Rattle.relation_coerces.proofs.Dereferences.{or_yes, or_no, auto-array, auto-view, auto-equal, auto-inside, auto-address, auto-other}
 use Rattle.relation_coerces.proofs.autoderefs.can_autoderef_into.Goals as goal

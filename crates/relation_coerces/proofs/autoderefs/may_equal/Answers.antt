@@ -1,5 +1,4 @@
 use mathlib.Core.Path.{refl}
-use borrow.Author.Rules.{rules}
 use Rattle.relation_coerces.proofs.autoderefs.may_equal.Goals as goal
 
 pub returns : goal.returns

@@ -1,4 +1,3 @@
-use borrow.Author.Rules.{rules}
 use Rattle.relation_coerces.proofs.Decisions.{coercion-closed, coercion-struct, coercion-elements, coercion-endless}
 use Rattle.relation_coerces.proofs.coercion.coerces.Goals as goal
 

@@ -1,4 +1,3 @@
-use borrow.Author.Rules.{rules}
 use Rattle.relation_coerces.proofs.Decisions.{open-slice, open-slice-pointer, open-endless, open-pointer, open-struct, open_none}
 use Rattle.relation_coerces.proofs.coercion.open_to.Goals as goal
 

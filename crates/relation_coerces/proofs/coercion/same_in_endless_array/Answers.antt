@@ -1,4 +1,3 @@
-use borrow.Author.Rules.{rules}
 use Rattle.relation_coerces.proofs.Decisions.{in-endless-array, in-no-endless-array}
 use Rattle.relation_coerces.proofs.coercion.same_in_endless_array.Goals as goal
 

@@ -1,5 +1,3 @@
-use Prim.Native.Nat.{ℕ}
-use lib.ListN.{length}
 use borrow.Author.Rules.{rules}
 use Rattle.type_layers.proofs.Words.{shorter}
 use Rattle.relation_declared.proofs.Decisions.{concrete-none, concrete-less, concrete-in, concrete-like, concrete-pointer, concrete-resolved, concrete-same}

@@ -1,4 +1,3 @@
-use borrow.Author.Rules.{rules}
 use Rattle.relation_declared.proofs.Decisions.{meets-by}
 use Rattle.relation_declared.proofs.concretization.meets_arraylike.Goals as goal
 

@@ -1,4 +1,3 @@
-use borrow.Author.Rules.{rules}
 use Rattle.relation_declared.proofs.Decisions.{holder-by}
 use Rattle.relation_declared.proofs.concretization.same_holder.Goals as goal
 

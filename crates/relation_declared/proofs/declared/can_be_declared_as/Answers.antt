@@ -1,4 +1,3 @@
-use borrow.Author.Rules.{rules}
 use Rattle.relation_declared.proofs.Decisions.{declared-array, declared-pointer, declared_same}
 use Rattle.relation_declared.proofs.declared.can_be_declared_as.Goals as goal
 

@@ -1,4 +1,3 @@
-use borrow.Author.Rules.{rules}
 use Rattle.relation_equals.proofs.Steps.{equal-kinds}
 use Rattle.relation_equals.proofs.identical_and_equals.equal_layer.Goals as goal
 

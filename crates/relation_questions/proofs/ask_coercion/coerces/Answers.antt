@@ -1,4 +1,3 @@
-use borrow.Author.Rules.{rules}
 use Rattle.relation_questions.proofs.Told.{coercion-refused, coercion-answered}
 use Rattle.relation_questions.proofs.ask_coercion.coerces.Goals as goal
 

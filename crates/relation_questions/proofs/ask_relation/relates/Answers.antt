@@ -1,4 +1,3 @@
-use borrow.Author.Rules.{rules}
 use Rattle.relation_questions.proofs.Told.{relation-refused, relation-answered}
 use Rattle.relation_questions.proofs.ask_relation.relates.Goals as goal
 

@@ -1,8 +1,6 @@
 use borrow.Author.Rules.{rules}
 use borrow.Author.Tests.{not-true, not-false}
-use lib.ListN.{length}
-use Prim.Native.Nat.{◌-◌}
-use Rattle.sheet_contents.proofs.Counts.{Summed, none_yet, bad-count, good-count, room, summed, few-layers}
+use Rattle.sheet_contents.proofs.Counts.{none_yet, bad-count, good-count, room, summed, few-layers}
 use Rattle.sheet_contents.proofs.bodies.total.Goals as goal
 
 pub loop-i-init : goal.loop-i-init

@@ -1,8 +1,6 @@
-use borrow.Author.Rules.{rules}
-use borrow.Author.Tests.{not-true, not-false}
 use lib.ListN.{length}
 use Prim.Native.Nat.{◌-◌}
-use Rattle.sheet_contents.proofs.Counts.{Summed, none_yet, bad-count, good-count, room, summed, few-layers}
+use Rattle.sheet_contents.proofs.Counts.{Summed}
 use Rattle.sheet_contents.proofs.bodies.total.Given as goal
 
 abbrev pub invariant-loop-i : goal.invariant-loop-i

@@ -1,4 +1,3 @@
-use borrow.Author.Rules.{rules}
 use borrow.Author.Tests.{not-true, not-false}
 use Rattle.sheet_contents.proofs.Shape.{no_words, bad-number, too_few, few, few-counts, all_there, not-all-there}
 use Rattle.sheet_contents.proofs.bodies.types_in.Goals as goal

@@ -1,4 +1,3 @@
-use borrow.Author.Rules.{rules}
 use Rattle.sheet_read.proofs.Checking.{too_long, odd-bytes, as_read, so-many}
 use Rattle.sheet_read.proofs.reading.read_sheet.Goals as goal
 

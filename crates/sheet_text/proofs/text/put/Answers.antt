@@ -1,7 +1,4 @@
-use borrow.Author.Rules.{rules}
-use Prim.Native.Nat.{◌-◌}
-use lib.ListN.{length}
-use Rattle.sheet_text.proofs.Putting.{Copied, past_end, too_long, copy_begin, inside, copy_more, copied}
+use Rattle.sheet_text.proofs.Putting.{past_end, too_long, copy_begin, inside, copy_more, copied}
 use Rattle.sheet_text.proofs.text.put.Goals as goal
 
 pub returns-then-at-out-clause-next : goal.returns-then-at-out-clause-next

@@ -1,7 +1,6 @@
-use borrow.Author.Rules.{rules}
 use Prim.Native.Nat.{◌-◌}
 use lib.ListN.{length}
-use Rattle.sheet_text.proofs.Putting.{Copied, past_end, too_long, copy_begin, inside, copy_more, copied}
+use Rattle.sheet_text.proofs.Putting.{Copied}
 use Rattle.sheet_text.proofs.text.put.Given as goal
 
 abbrev pub invariant-loop-i : goal.invariant-loop-i

@@ -1,4 +1,3 @@
-use borrow.Author.Rules.{rules}
 use Rattle.sheet_text.proofs.Putting.{one-digit, two_digits, no_digit}
 use Rattle.sheet_text.proofs.text.put_number.Goals as goal
 

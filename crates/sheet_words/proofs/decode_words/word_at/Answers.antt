@@ -1,4 +1,3 @@
-use borrow.Author.Rules.{rules}
 use Rattle.sheet_words.proofs.Decoding.{word-here}
 use Rattle.sheet_words.proofs.decode_words.word_at.Goals as goal
 

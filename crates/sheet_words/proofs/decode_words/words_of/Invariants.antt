@@ -1,7 +1,5 @@
-use borrow.Author.Rules.{rules}
 use Rattle.write_words.proofs.Writing.{Begun}
 use Rattle.sheet_words.specs.Little.{whole_words}
-use Rattle.sheet_words.proofs.Decoding.{too_many, decode-begin, inside, decode-more, decoded}
 use lib.ListN.{replicate}
 use Prim.Native.Nat.{◌-◌}
 use Rattle.sheet_words.proofs.decode_words.words_of.Given as goal

@@ -1,4 +1,3 @@
-use borrow.Author.Rules.{rules}
 use Rattle.symbol_change.proofs.Decided.{chose-refused, kept-refused, found-fits, found-ends, found-bytes, found_part, chose-found, kept-found, new-fits, new-ends, new-bytes, new-part, chose-new, kept_new}
 use Rattle.symbol_change.proofs.change.act_in.Goals as goal
 

@@ -1,4 +1,3 @@
-use borrow.Author.Rules.{rules}
 use Rattle.symbol_change.proofs.Decided.{nothing-changes, nothing_stored, change-by, store-after}
 use Rattle.symbol_change.proofs.change.choose.Goals as goal
 

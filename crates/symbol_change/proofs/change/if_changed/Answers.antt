@@ -1,4 +1,3 @@
-use borrow.Author.Rules.{rules}
 use Rattle.symbol_change.proofs.Decided.{is-stored, is-kept}
 use Rattle.symbol_change.proofs.change.if_changed.Goals as goal
 

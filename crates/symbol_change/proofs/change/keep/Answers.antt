@@ -1,4 +1,3 @@
-use borrow.Author.Rules.{rules}
 use Rattle.symbol_change.proofs.Decided.{is-accepted, is-refused}
 use Rattle.symbol_change.proofs.change.keep.Goals as goal
 

@@ -1,4 +1,3 @@
-use borrow.Author.Rules.{rules}
 use borrow.Author.Tests.{lt-ltb, le-ltb}
 use Rattle.symbol_columns.specs.AsCoded.{put_row}
 use Rattle.symbol_columns.proofs.rows.put_row.Goals as goal

@@ -1,4 +1,3 @@
-use borrow.Author.Rules.{rules}
 use Rattle.symbol_columns.specs.AsCoded.{row_at}
 use Rattle.symbol_columns.proofs.Reading.{row_in, row-past}
 use Rattle.symbol_columns.proofs.rows.row.Goals as goal

@@ -1,4 +1,3 @@
-use borrow.Author.Rules.{rules}
 use Rattle.symbol_columns.proofs.Storing.{past-store, slot-cut, counted, slot_whole}
 use Rattle.symbol_columns.proofs.stored_type.slot_words.Goals as goal
 

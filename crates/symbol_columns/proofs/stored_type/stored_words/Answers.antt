@@ -1,4 +1,3 @@
-use borrow.Author.Rules.{rules}
 use Rattle.symbol_columns.proofs.Storing.{absent, present, whole}
 use Rattle.symbol_columns.proofs.stored_type.stored_words.Goals as goal
 

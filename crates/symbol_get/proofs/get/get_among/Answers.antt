@@ -1,4 +1,3 @@
-use borrow.Author.Rules.{rules}
 use Rattle.symbol_get.proofs.Found.{told_of, found_of}
 use Rattle.symbol_get.proofs.get.get_among.Goals as goal
 

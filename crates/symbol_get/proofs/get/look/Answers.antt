@@ -1,4 +1,3 @@
-use borrow.Author.Rules.{rules}
 use Rattle.symbol_get.proofs.Found.{get_refused, get_absent, get_typed, get-poisoned}
 use Rattle.symbol_get.proofs.get.look.Goals as goal
 

@@ -1,4 +1,3 @@
-use borrow.Author.Rules.{rules}
 use Rattle.symbol_get.proofs.Found.{told-by, found-by}
 use Rattle.symbol_get.proofs.get.tell.Goals as goal
 

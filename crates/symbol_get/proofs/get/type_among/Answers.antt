@@ -1,4 +1,3 @@
-use borrow.Author.Rules.{rules}
 use Rattle.symbol_get.proofs.Found.{type-absent, type-there, type-poisoned, type-refused}
 use Rattle.symbol_get.proofs.get.type_among.Goals as goal
 

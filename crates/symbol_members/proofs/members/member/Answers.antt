@@ -1,5 +1,4 @@
 use Rattle.symbol_members.proofs.Storing.{too_many, not_there, not-typed, is-typed}
-use borrow.Author.Rules.{rules}
 use Rattle.symbol_members.proofs.members.member.Goals as goal
 
 pub returns-then-n-gt-RECORDS : goal.returns-then-n-gt-RECORDS

@@ -1,4 +1,3 @@
-use borrow.Author.Rules.{rules}
 use Rattle.symbol_operations.proofs.Coded.{asks}
 use Rattle.symbol_operations.proofs.operation.act_of.Goals as goal
 

@@ -1,10 +1,5 @@
-use mathlib.Core.Path.{◌≡◌}
-use Prim.Native.Nat.{◌≤◌, ◌-◌}
+use Prim.Native.Nat.{◌-◌}
 use borrow.Author.Rules.{rules}
-use mathlib.Core.Bool.{◌||◌}
-use Rattle.symbol_columns.specs.AsCoded.{read_from}
-use Rattle.symbol_columns.proofs.Reading.{from}
-use Rattle.symbol_order.specs.Order.{has_id}
 use Rattle.symbol_order.proofs.Onward.{id-start, id-more, id-end}
 use Rattle.symbol_order.proofs.order.has_id.Goals as goal
 

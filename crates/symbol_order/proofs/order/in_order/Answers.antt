@@ -1,13 +1,7 @@
-use mathlib.Core.Path.{◌≡◌}
-use Prim.Native.Nat.{◌≤◌, ◌-◌, ◌*◌}
+use Prim.Native.Nat.{◌-◌}
 use borrow.Author.Rules.{rules}
 use borrow.Author.Tests.{not-true, not-false}
-use lib.ListN.{length, drop}
-use Rattle.symbol_columns.specs.AsCoded.{read_from}
-use Rattle.symbol_columns.proofs.Reading.{from}
-use Rattle.symbol_order.specs.Order.{in_order}
-use Rattle.symbol_order.specs.AsCoded.{Noted}
-use Rattle.symbol_order.proofs.Onward.{onward, too_many, other-store, start, ends, breaks, goes_on, slot, noted-start, still_full, noted_more}
+use Rattle.symbol_order.proofs.Onward.{too_many, other-store, start, ends, breaks, goes_on, slot, noted-start, still_full, noted_more}
 use Rattle.std.proofs.Common.{ap}
 use mathlib.Core.Bool.{not}
 use Rattle.symbol_order.proofs.order.in_order.Goals as goal

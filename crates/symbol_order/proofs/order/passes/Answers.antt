@@ -1,4 +1,3 @@
-use borrow.Author.Rules.{rules}
 use borrow.Author.Tests.{ne_eqb}
 use Rattle.type_layers.proofs.Decide.{no}
 use Rattle.symbol_order.specs.Order as order

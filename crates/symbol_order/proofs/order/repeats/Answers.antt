@@ -1,4 +1,3 @@
-use borrow.Author.Rules.{rules}
 use Rattle.symbol_order.proofs.Onward.{not_noted}
 use Rattle.symbol_order.proofs.order.repeats.Goals as goal
 

@@ -1,4 +1,3 @@
-use borrow.Author.Rules.{rules}
 use borrow.Author.Tests.{le-leb, lt-leb, eq-eqb, ne_eqb}
 use Rattle.type_layers.proofs.Decide.{yes, no, yes-by, no-by}
 use Rattle.symbol_columns.specs.AsCoded.{row_at}

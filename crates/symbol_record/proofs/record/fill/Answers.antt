@@ -1,4 +1,3 @@
-use borrow.Author.Rules.{rules}
 use Rattle.symbol_record.proofs.Doing.{fills-type, fills-words, fills-poison, words-stay}
 use Rattle.symbol_record.proofs.record.fill.Goals as goal
 

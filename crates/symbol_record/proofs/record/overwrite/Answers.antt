@@ -1,4 +1,3 @@
-use borrow.Author.Rules.{rules}
 use Rattle.symbol_record.proofs.Doing.{overwrites-by, overwrites-as, overwrites-words}
 use Rattle.symbol_record.proofs.record.overwrite.Goals as goal
 

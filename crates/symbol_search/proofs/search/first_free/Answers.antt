@@ -1,6 +1,6 @@
-use Prim.Native.Nat.{◌≤◌, ◌-◌}
+use Prim.Native.Nat.{◌-◌}
 use borrow.Author.Rules.{rules}
-use Rattle.symbol_search.proofs.Searching.{FreePassed, free-many, free-start, free-found, free_on, free-over}
+use Rattle.symbol_search.proofs.Searching.{free-many, free-start, free-found, free_on, free-over}
 use Rattle.symbol_search.proofs.search.first_free.Goals as goal
 
 pub returns-then-n-gt-RECORDS : goal.returns-then-n-gt-RECORDS

@@ -1,6 +1,5 @@
 use Prim.Native.Nat.{◌≤◌, ◌-◌}
-use borrow.Author.Rules.{rules}
-use Rattle.symbol_search.proofs.Searching.{FreePassed, free-many, free-start, free-found, free_on, free-over}
+use Rattle.symbol_search.proofs.Searching.{FreePassed}
 use Rattle.symbol_search.proofs.search.first_free.Given as goal
 
 abbrev pub invariant-loop-i : goal.invariant-loop-i

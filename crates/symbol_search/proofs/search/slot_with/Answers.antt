@@ -1,6 +1,6 @@
-use Prim.Native.Nat.{◌≤◌, ◌-◌}
+use Prim.Native.Nat.{◌-◌}
 use borrow.Author.Rules.{rules}
-use Rattle.symbol_search.proofs.Searching.{SlotPassed, slot-many, slot-start, slot-found, slot-on, slot-over}
+use Rattle.symbol_search.proofs.Searching.{slot-many, slot-start, slot-found, slot-on, slot-over}
 use Rattle.symbol_search.proofs.search.slot_with.Goals as goal
 
 pub returns-then-n-gt-RECORDS : goal.returns-then-n-gt-RECORDS

@@ -1,6 +1,5 @@
 use Prim.Native.Nat.{◌≤◌, ◌-◌}
-use borrow.Author.Rules.{rules}
-use Rattle.symbol_search.proofs.Searching.{SlotPassed, slot-many, slot-start, slot-found, slot-on, slot-over}
+use Rattle.symbol_search.proofs.Searching.{SlotPassed}
 use Rattle.symbol_search.proofs.search.slot_with.Given as goal
 
 abbrev pub invariant-loop-i : goal.invariant-loop-i

@@ -1,4 +1,3 @@
-use borrow.Author.Rules.{rules}
 use Rattle.symbol_slot.proofs.Decided.{type-checked, none-checked}
 use Rattle.symbol_slot.proofs.slot.check_offered.Goals as goal
 

@@ -1,4 +1,3 @@
-use borrow.Author.Rules.{rules}
 use Rattle.symbol_slot.proofs.Decided.{out_of_order, found-there, room-there, none_free}
 use Rattle.symbol_slot.proofs.slot.slot_for.Goals as goal
 

@@ -1,4 +1,3 @@
-use borrow.Author.Rules.{rules}
 use Rattle.symbol_slot.proofs.Decided.{offer-refused, offer-good}
 use Rattle.symbol_slot.proofs.slot.way_of.Goals as goal
 

@@ -1,4 +1,3 @@
-use borrow.Author.Rules.{rules}
 use Rattle.symbol_update.proofs.Outcomes.{answers_by, leaves_by}
 use Rattle.symbol_update.proofs.update_record.update.Goals as goal
 

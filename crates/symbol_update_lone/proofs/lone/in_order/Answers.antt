@@ -1,4 +1,3 @@
-use borrow.Author.Rules.{rules}
 use Rattle.symbol_update_lone.proofs.Alone.{miscounted, poisoned-fits, not_taken, typed-fits}
 use Rattle.symbol_update_lone.proofs.lone.in_order.Goals as goal
 

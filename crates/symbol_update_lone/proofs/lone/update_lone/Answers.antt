@@ -1,4 +1,3 @@
-use borrow.Author.Rules.{rules}
 use Rattle.symbol_update_lone.proofs.Alone.{answers-refused, keeps-refused, answers-disordered, keeps-disordered, answers-updated, leaves-updated}
 use Rattle.std.proofs.Common.{ap}
 use mathlib.Core.Bool.{not}

@@ -1,4 +1,3 @@
-use borrow.Author.Rules.{rules}
 use Rattle.relation_coerces.proofs.Reading.{read-value}
 use Rattle.symbol_update_rule.proofs.Choices.{poisoned, ill-formed, kept, type-replaced, both-replaced, conflicting}
 use Rattle.symbol_update_rule.proofs.lines.decide.Goals as goal

@@ -1,4 +1,3 @@
-use borrow.Author.Rules.{rules}
 use Rattle.type_checks.proofs.Refusals.{refuses, accepts}
 use Rattle.type_bounds.specs.Bounds.{highest_answer}
 use Rattle.type_bounds.proofs.min_and_max.max_u128.Goals as goal

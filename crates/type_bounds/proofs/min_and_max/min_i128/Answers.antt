@@ -1,4 +1,3 @@
-use borrow.Author.Rules.{rules}
 use Rattle.type_checks.proofs.Refusals.{refuses, accepts}
 use Rattle.type_bounds.specs.Bounds.{lowest_answer}
 use Rattle.type_bounds.proofs.min_and_max.min_i128.Goals as goal

@@ -1,4 +1,3 @@
-use borrow.Author.Rules.{rules}
 use Rattle.type_builders.proofs.Joined.{two}
 use Rattle.type_builders.proofs.strings.for_string_slice.Goals as goal
 

@@ -1,4 +1,3 @@
-use borrow.Author.Rules.{rules}
 use Rattle.type_checks.proofs.Within.{holds_not, holds_plain, holds_more}
 use Rattle.type_checks.proofs.good_layers.good_holder.Goals as goal
 

@@ -1,7 +1,4 @@
-use borrow.Author.Rules.{rules}
-use Prim.Native.Nat.{◌-◌}
-use lib.ListN.{length}
-use Rattle.type_checks.proofs.Passing.{Ahead, begin, too_many, left_over, holder-bad, holder-good, leaf_last}
+use Rattle.type_checks.proofs.Passing.{begin, too_many, left_over, holder-bad, holder-good, leaf_last}
 use Rattle.std.proofs.Common.{ap}
 use mathlib.Core.Bool.{not}
 use Rattle.type_checks.proofs.type_test.is_type.Goals as goal

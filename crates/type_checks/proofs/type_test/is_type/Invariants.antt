@@ -1,7 +1,6 @@
-use borrow.Author.Rules.{rules}
 use Prim.Native.Nat.{◌-◌}
 use lib.ListN.{length}
-use Rattle.type_checks.proofs.Passing.{Ahead, begin, too_many, left_over, holder-bad, holder-good, leaf_last}
+use Rattle.type_checks.proofs.Passing.{Ahead}
 use Rattle.type_checks.proofs.type_test.is_type.Given as goal
 
 abbrev pub invariant-loop-at : goal.invariant-loop-at

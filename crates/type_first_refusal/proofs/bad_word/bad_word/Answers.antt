@@ -1,4 +1,3 @@
-use borrow.Author.Rules.{rules}
 use Rattle.type_first_refusal.proofs.Words.{kind-told, name-told, number-told, none_told}
 use Rattle.type_first_refusal.proofs.bad_word.bad_word.Goals as goal
 

@@ -1,4 +1,3 @@
-use borrow.Author.Rules.{rules}
 use Rattle.type_checks.proofs.Passing.{counted-by}
 use Rattle.type_first_refusal.proofs.first_refusal.check_type.Goals as goal
 

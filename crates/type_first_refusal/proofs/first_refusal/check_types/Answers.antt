@@ -1,4 +1,3 @@
-use borrow.Author.Rules.{rules}
 use Rattle.type_checks.proofs.Refusals.{left-passes, left-fails}
 use Rattle.type_first_refusal.proofs.first_refusal.check_types.Goals as goal
 

@@ -1,8 +1,6 @@
 use Prim.Native.Nat.{◌-◌}
 use lib.ListN.{length}
-use borrow.Author.Rules.{rules}
-use Rattle.type_checks.proofs.Checks.{Passed, start, turn, miscounted, bad, fine, leaf}
-use Rattle.type_first_refusal.proofs.Words.{no_word, that-word, small_word}
+use Rattle.type_checks.proofs.Checks.{Passed}
 use Rattle.type_first_refusal.proofs.first_refusal.first_refusal.Given as goal
 
 abbrev pub invariant-loop-at : goal.invariant-loop-at

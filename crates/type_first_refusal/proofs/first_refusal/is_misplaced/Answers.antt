@@ -1,4 +1,3 @@
-use borrow.Author.Rules.{rules}
 use Rattle.type_layers.proofs.Decide.{yes-by, no-by}
 use Rattle.type_first_refusal.proofs.first_refusal.is_misplaced.Goals as goal
 

@@ -1,4 +1,3 @@
-use borrow.Author.Rules.{rules}
 use Rattle.type_layers.proofs.Words.{inner-none, rest-is}
 use Rattle.type_layers.proofs.outer_and_inner.inner.Goals as goal
 

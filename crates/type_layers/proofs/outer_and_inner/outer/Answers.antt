@@ -1,4 +1,3 @@
-use borrow.Author.Rules.{rules}
 use Rattle.type_layers.proofs.Words.{outer-none, outer-more}
 use Rattle.type_layers.proofs.outer_and_inner.outer.Goals as goal
 

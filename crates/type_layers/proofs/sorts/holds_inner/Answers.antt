@@ -1,4 +1,3 @@
-use borrow.Author.Rules.{rules}
 use Rattle.type_layers.proofs.Decide.{one_of}
 use Rattle.type_layers.proofs.sorts.holds_inner.Goals as goal
 

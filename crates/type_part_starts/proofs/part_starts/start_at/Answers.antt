@@ -1,4 +1,3 @@
-use borrow.Author.Rules.{rules}
 use borrow.Author.Tests.{eq-eqb, ne_eqb}
 use Rattle.type_layers.proofs.Decide.{yes, no}
 use Rattle.type_part_starts.proofs.part_starts.start_at.Goals as goal

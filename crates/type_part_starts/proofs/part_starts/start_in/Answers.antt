@@ -1,4 +1,3 @@
-use borrow.Author.Rules.{rules}
 use Rattle.type_part_starts.proofs.Places.{element-short, pointee-short, viewee-short, dereferenced-short, at-element, at-pointee, at-viewee, at-dereferenced}
 use Rattle.type_part_starts.proofs.part_starts.start_in.Goals as goal
 

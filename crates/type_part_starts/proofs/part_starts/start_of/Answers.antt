@@ -1,4 +1,3 @@
-use borrow.Author.Rules.{rules}
 use Rattle.type_part_starts.specs.PartStarts.{start_answer}
 use Rattle.type_checks.proofs.Refusals.{refuses, accepts}
 use Rattle.type_part_starts.proofs.Places.{passes}

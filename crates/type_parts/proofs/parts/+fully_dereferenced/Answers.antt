@@ -1,6 +1,3 @@
-use Prim.Native.Nat.{ℕ}
-use lib.ListN.{length}
-use borrow.Author.Rules.{rules}
 use Rattle.type_layers.proofs.Words.{shorter}
 use Rattle.type_parts.proofs.Dereferenced.{plain-none, plain, through}
 use Rattle.type_parts.proofs.parts.+fully_dereferenced.Goals as goal

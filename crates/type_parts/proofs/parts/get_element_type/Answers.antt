@@ -1,4 +1,3 @@
-use borrow.Author.Rules.{rules}
 use Rattle.type_parts.proofs.Dereferenced.{element-is}
 use Rattle.type_parts.proofs.parts.get_element_type.Goals as goal
 

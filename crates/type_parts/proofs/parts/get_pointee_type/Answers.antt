@@ -1,4 +1,3 @@
-use borrow.Author.Rules.{rules}
 use Rattle.type_parts.proofs.Dereferenced.{pointee-is}
 use Rattle.type_parts.proofs.parts.get_pointee_type.Goals as goal
 

@@ -1,4 +1,3 @@
-use borrow.Author.Rules.{rules}
 use Rattle.type_parts.proofs.Dereferenced.{viewee-is}
 use Rattle.type_parts.proofs.parts.get_viewee_type.Goals as goal
 

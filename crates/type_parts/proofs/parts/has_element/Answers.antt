@@ -1,4 +1,3 @@
-use borrow.Author.Rules.{rules}
 use Rattle.type_layers.proofs.Decide.{either-of}
 use Rattle.type_parts.proofs.parts.has_element.Goals as goal
 

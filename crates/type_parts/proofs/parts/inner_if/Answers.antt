@@ -1,4 +1,3 @@
-use borrow.Author.Rules.{rules}
 use Rattle.type_parts.proofs.Dereferenced.{there, gone}
 use Rattle.type_parts.proofs.parts.inner_if.Goals as goal
 

@@ -1,4 +1,3 @@
-use borrow.Author.Rules.{rules}
 use Rattle.type_checks.proofs.Refusals.{refuses, accepts, answered}
 use Rattle.type_properties.proofs.Told.{property-at}
 use Rattle.type_properties.specs.Properties.{property_answer}

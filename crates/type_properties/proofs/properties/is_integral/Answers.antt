@@ -1,4 +1,3 @@
-use borrow.Author.Rules.{rules}
 use Rattle.type_properties.proofs.properties.is_integral.Goals as goal
 
 pub returns : goal.returns

@@ -1,4 +1,3 @@
-use borrow.Author.Rules.{rules}
 use Rattle.type_roles.proofs.Told.{looked-up}
 use Rattle.type_roles.proofs.grid.entry_of.Goals as goal
 

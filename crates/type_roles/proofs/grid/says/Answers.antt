@@ -1,4 +1,3 @@
-use borrow.Author.Rules.{rules}
 use borrow.Author.Tests.{eq-eqb, ne_eqb}
 use Rattle.type_layers.proofs.Decide.{yes, no}
 use Rattle.type_roles.proofs.grid.says.Goals as goal

@@ -1,4 +1,3 @@
-use borrow.Author.Rules.{rules}
 use Rattle.type_checks.proofs.Refusals.{refuses, accepts, answered}
 use Rattle.type_roles.specs.Roles.{role_answer}
 use Rattle.type_roles.proofs.Told.{has-entry, role-told}

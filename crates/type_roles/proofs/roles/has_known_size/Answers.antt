@@ -1,4 +1,3 @@
-use borrow.Author.Rules.{rules}
 use Rattle.type_roles.proofs.Told.{known-told}
 use Rattle.type_roles.proofs.roles.has_known_size.Goals as goal
 

@@ -1,4 +1,3 @@
-use borrow.Author.Rules.{rules}
 use Rattle.type_size_and_depth.proofs.KnownSizes.{known-none, known_more}
 use Rattle.type_size_and_depth.proofs.known_sizes.known_size.Goals as goal
 

@@ -1,4 +1,3 @@
-use borrow.Author.Rules.{rules}
 use Rattle.type_checks.proofs.Refusals.{refuses, accepts}
 use Rattle.type_size_and_depth.specs.Known.{known_size_answer}
 use Rattle.type_size_and_depth.proofs.known_sizes.known_size_in_bytes_as_word_member.Goals as goal

@@ -1,4 +1,3 @@
-use borrow.Author.Rules.{rules}
 use Rattle.type_checks.proofs.Refusals.{refuses, accepts}
 use Rattle.type_size_and_depth.specs.Depth.{pointer_depth_answer}
 use Rattle.type_size_and_depth.proofs.pointer_depths.pointer_depth.Goals as goal

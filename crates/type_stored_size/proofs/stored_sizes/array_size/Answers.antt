@@ -1,4 +1,3 @@
-use borrow.Author.Rules.{rules}
 use Rattle.type_stored_size.proofs.Measured.{of-bytes, of-refused}
 use Rattle.type_stored_size.proofs.stored_sizes.array_size.Goals as goal
 

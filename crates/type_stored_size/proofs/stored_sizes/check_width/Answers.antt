@@ -1,4 +1,3 @@
-use borrow.Author.Rules.{rules}
 use Rattle.type_layers.proofs.Decide.{yes, no}
 use Rattle.type_stored_size.proofs.stored_sizes.check_width.Goals as goal
 

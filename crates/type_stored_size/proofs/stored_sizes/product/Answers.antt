@@ -1,4 +1,3 @@
-use borrow.Author.Rules.{rules}
 use Rattle.type_stored_size.proofs.Measured.{of-nothing, over, made, fitting}
 use Rattle.type_stored_size.proofs.stored_sizes.product.Goals as goal
 

@@ -1,4 +1,3 @@
-use borrow.Author.Rules.{rules}
 use Rattle.type_checks.proofs.Refusals.{refuses, accepts}
 use Rattle.type_stored_size.specs.StoredSize.{stored_size_answer}
 use Rattle.type_stored_size.proofs.Measured.{at-most-8}

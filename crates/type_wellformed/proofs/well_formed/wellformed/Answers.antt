@@ -1,4 +1,3 @@
-use borrow.Author.Rules.{rules}
 use Rattle.type_checks.proofs.Refusals.{refuses, accepts, answered}
 use Rattle.type_wellformed.specs.WellFormed.{well_formed_answer}
 use Rattle.type_wellformed.proofs.well_formed.wellformed.Goals as goal

@@ -1,4 +1,3 @@
-use borrow.Author.Rules.{rules}
 use Rattle.type_builders.proofs.Joined.{two}
 use Rattle.walker_arrival.proofs.arrival.pointer_and_arraylike.Goals as goal
 

@@ -1,5 +1,4 @@
 use Rattle.walker_arrival.proofs.Arriving.{stays-inside}
-use borrow.Author.Rules.{rules}
 use Rattle.walker_arrival.proofs.arrival.staying.Goals as goal
 
 pub returns-then-desliced : goal.returns-then-desliced

@@ -1,5 +1,4 @@
 use Rattle.walker_rule.proofs.Asking.{is-asked, not-asked}
-use borrow.Author.Rules.{rules}
 use Rattle.walker_rule.proofs.asked.asked_member.Goals as goal
 
 pub returns-then-kind-eq-MEMBER : goal.returns-then-kind-eq-MEMBER

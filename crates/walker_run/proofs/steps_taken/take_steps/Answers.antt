@@ -1,7 +1,5 @@
 use Prim.Native.Nat.{◌-◌}
-use lib.ListN.{length}
-use Rattle.walker_run.proofs.Stepping.{Reached, start, sticks-here, goes_on, tells-stuck, tells-arrived}
-use borrow.Author.Rules.{rules}
+use Rattle.walker_run.proofs.Stepping.{start, sticks-here, goes_on, tells-stuck, tells-arrived}
 use Rattle.walker_run.proofs.steps_taken.take_steps.Goals as goal
 
 pub loop-at-init : goal.loop-at-init

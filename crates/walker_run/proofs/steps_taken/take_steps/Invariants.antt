@@ -1,7 +1,6 @@
 use Prim.Native.Nat.{◌-◌}
 use lib.ListN.{length}
-use Rattle.walker_run.proofs.Stepping.{Reached, start, sticks-here, goes_on, tells-stuck, tells-arrived}
-use borrow.Author.Rules.{rules}
+use Rattle.walker_run.proofs.Stepping.{Reached}
 use Rattle.walker_run.proofs.steps_taken.take_steps.Given as goal
 
 abbrev pub invariant-loop-at : goal.invariant-loop-at

@@ -1,5 +1,4 @@
 use Rattle.walker_run.proofs.Stepping.{tells-same, tells-refused, no-type, no_steps, checked, type-whole, steps-fours}
-use borrow.Author.Rules.{rules}
 use Rattle.walker_run.proofs.steps_taken.walk_among.Goals as goal
 
 pub walk_ordered-requires : goal.walk_ordered-requires

@@ -1,6 +1,5 @@
 use mathlib.Core.Path.{sym, ◌∙◌}
 use Rattle.walker_run.proofs.Stepping.{tells-same, tells-refused, not-ordered, is-ordered}
-use borrow.Author.Rules.{rules}
 use Rattle.walker_run.proofs.steps_taken.walk_ordered.Goals as goal
 
 pub take_steps-requires : goal.take_steps-requires

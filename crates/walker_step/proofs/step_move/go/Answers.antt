@@ -1,6 +1,5 @@
 use Rattle.walker_step.specs.AsCoded.{onward}
 use Rattle.walker_step.proofs.Acting.{leads, leads-in}
-use borrow.Author.Rules.{rules}
 use Rattle.walker_step.proofs.step_move.go.Goals as goal
 
 pub returns-in-Stuck : goal.returns-in-Stuck

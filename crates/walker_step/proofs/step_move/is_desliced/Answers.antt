@@ -1,6 +1,5 @@
 use Rattle.walker_step.specs.AsCoded.{desliced}
 use Rattle.walker_step.proofs.Acting.{turns}
-use borrow.Author.Rules.{rules}
 use Rattle.walker_step.proofs.step_move.is_desliced.Goals as goal
 
 pub returns-in-Stuck : goal.returns-in-Stuck

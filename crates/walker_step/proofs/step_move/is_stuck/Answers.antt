@@ -1,6 +1,5 @@
 use Rattle.walker_step.specs.AsCoded.{sticks}
 use Rattle.walker_step.proofs.Acting.{stays-stuck}
-use borrow.Author.Rules.{rules}
 use Rattle.walker_step.proofs.step_move.is_stuck.Goals as goal
 
 pub returns-in-Stuck : goal.returns-in-Stuck

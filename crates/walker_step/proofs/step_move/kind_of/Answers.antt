@@ -1,5 +1,4 @@
 use Rattle.walker_step.proofs.Acting.{counts-as-arraylike, counts-as-it-is}
-use borrow.Author.Rules.{rules}
 use Rattle.walker_step.proofs.step_move.kind_of.Goals as goal
 
 pub returns-then-desliced : goal.returns-then-desliced

@@ -1,5 +1,4 @@
 use Rattle.walker_step.proofs.Acting.{by-element, by-member, by-autodeslice, by-autoderef, by-autoview, by-none}
-use borrow.Author.Rules.{rules}
 use Rattle.walker_step.proofs.step_move.move_of.Goals as goal
 
 pub returns-then-kind-eq-ELEMENT : goal.returns-then-kind-eq-ELEMENT

@@ -1,4 +1,3 @@
-use borrow.Author.Rules.{rules}
 use Rattle.write_answer.specs.Flat as rules
 use Rattle.write_answer.proofs.Variants.{of-verdict}
 use Rattle.write_answer.proofs.answer.verdict.Goals as goal

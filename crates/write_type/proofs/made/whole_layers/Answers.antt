@@ -1,4 +1,3 @@
-use borrow.Author.Rules.{rules}
 use Rattle.write_type.proofs.Outcomes.{whole, whole_length}
 use Rattle.write_type.proofs.made.whole_layers.Goals as goal
 

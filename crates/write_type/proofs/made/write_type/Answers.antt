@@ -1,4 +1,3 @@
-use borrow.Author.Rules.{rules}
 use Rattle.write_type.proofs.Outcomes.{too_long, too_short, wrote}
 use Rattle.write_type.proofs.made.write_type.Goals as goal
 

@@ -1,7 +1,4 @@
-use Prim.Native.Nat.{◌-◌}
-use lib.ListN.{length}
-use borrow.Author.Rules.{rules}
-use Rattle.write_words.proofs.Writing.{Begun, begin, go_on, all, too_short}
+use Rattle.write_words.proofs.Writing.{begin, go_on, all, too_short}
 use Rattle.write_words.proofs.front.write_words.Goals as goal
 
 pub returns-then-out-words : goal.returns-then-out-words

@@ -1,7 +1,6 @@
 use Prim.Native.Nat.{◌-◌}
 use lib.ListN.{length}
-use borrow.Author.Rules.{rules}
-use Rattle.write_words.proofs.Writing.{Begun, begin, go_on, all, too_short}
+use Rattle.write_words.proofs.Writing.{Begun}
 use Rattle.write_words.proofs.front.write_words.Given as goal
 
 abbrev pub invariant-loop-at : goal.invariant-loop-at
