@@ -4,12 +4,7 @@ ghost use Rattle.write_answer.specs.Flat as rules;
 
 use write_answer::Answer;
 
-pub fn tj_fix_type_for_flags(
-    t: &[u64],
-    external: bool,
-    context: u64,
-    out: &mut [u64],
-) -> Answer
+pub fn tj_fix_type_for_flags(t: &[u64], external: bool, context: u64, out: &mut [u64]) -> Answer
     ensures answer { result ≡ rules.flat (fixed_answer t.now external context out.old) }
     ensures written { out.new ≡ fixed_buffer t.now external context out.old }
 {

@@ -17,12 +17,13 @@ pub loop-i-init : goal.loop-i-init
 loop-i-init c = (c.if-table-gt-RECORDS.false, omega arith, sym (rows_start c.args.flat.now c.args.table.now))
 
 pub loop-i-preserved : goal.loop-i-preserved
-loop-i-preserved c =
-    (c.loop-i.invariant.0,
-     omega arith,
-      c.put_row.ensures
+loop-i-preserved c = (
+  c.loop-i.invariant.0,
+  omega arith,
+  c.put_row.ensures
       ∙ ap (λ (ws : List ℕ). put_row ws c.loop-i.i (get_or c.args.table.now c.loop-i.i vacant)) c.loop-i.invariant.2
-      ∙ sym (rows_next c.args.flat.now c.args.table.now c.loop-i.i))
+      ∙ sym (rows_next c.args.flat.now c.args.table.now c.loop-i.i),
+)
 
 pub returns : goal.returns
 returns c =
