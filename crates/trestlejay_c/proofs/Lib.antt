@@ -1,3 +1,2 @@
 -- What follows from the contracts of the exports.
-pub mod Single
-pub mod Demanded
+pub mod Same
