@@ -1,25 +1,57 @@
--- The paper's answers tell the cases of each enum apart.
+-- The paper's answers tell the cases of each result apart.
 -- Assumes nothing.
-use mathlib.Core.Path.{◌≡◌}
-use Rattle.type_layers.specs.Answer.{of_checked, of_verdict}
-use Rattle.type_layers.specs.declared.answers.Checked.{Checked}
-use Rattle.type_layers.specs.declared.answers.Checked.TheVariants as checked
-use Rattle.type_layers.specs.declared.answers.Verdict.{Verdict}
-use Rattle.type_layers.specs.declared.answers.Verdict.TheVariants as verdict
+use mathlib.Core.Path.{◌≡◌, refl, ap}
+use mathlib.Core.Bool.{Bool, true, false}
+use Prim.Native.Nat.{ℕ}
+use Rattle.std.specs.Prelude.{Result, Ok, Err, Option, Some, None}
+use Rattle.type_numbers.specs.Refusal.{number_of}
+use Rattle.type_numbers.proofs.Refusals.{number_of-apart}
+use Rattle.type_numbers.specs.declared.refusal.Refusal.{Refusal}
+use Rattle.type_layers.specs.Answer.{of_result, of_found, of_verdict}
+use Rattle.type_layers.specs.declared.answers.Refused.{Refused}
 
-pub checked-apart : (x y : Checked) → of_checked x ≡ of_checked y → x ≡ y
-checked-apart (checked.Good i) (checked.Good j) e = cc
-checked-apart (checked.Good i) (checked.Refused n p) e = cc
-checked-apart (checked.Refused n p) (checked.Good i) e = cc
-checked-apart (checked.Refused n p) (checked.Refused m q) e = cc
+abbrev at : Refusal → ℕ → Refused
+at r p = record { refusal = r; place = p }
 
-pub verdict-apart : (x y : Verdict) → of_verdict x ≡ of_verdict y → x ≡ y
-verdict-apart verdict.Yes verdict.Yes e = cc
-verdict-apart verdict.Yes verdict.No e = cc
-verdict-apart verdict.Yes (verdict.Refused n p) e = cc
-verdict-apart verdict.No verdict.Yes e = cc
-verdict-apart verdict.No verdict.No e = cc
-verdict-apart verdict.No (verdict.Refused n p) e = cc
-verdict-apart (verdict.Refused n p) verdict.Yes e = cc
-verdict-apart (verdict.Refused n p) verdict.No e = cc
-verdict-apart (verdict.Refused n p) (verdict.Refused m q) e = cc
+same_at : (r s : Refusal) (p q : ℕ) → r ≡ s → p ≡ q → at r p ≡ at s q
+same_at r s p q e f = rw (e, f)
+
+pub same-place : (d e : Refused) → number_of d.refusal ≡ number_of e.refusal → d.place ≡ e.place → d ≡ e
+same-place d e p q = same_at d.refusal e.refusal d.place e.place (number_of-apart d.refusal e.refusal p) q
+
+pub result-apart : {A : Type 0} (x y : Result A Refused) → of_result x ≡ of_result y → x ≡ y
+result-apart (Ok i) (Ok j) e = cc
+result-apart (Ok i) (Err d) e = cc
+result-apart (Err d) (Ok i) e = cc
+result-apart (Err d) (Err e) p =
+    let n : number_of d.refusal ≡ number_of e.refusal = cc in
+    let q : d.place ≡ e.place = cc in
+    ap Err (same-place d e n q)
+
+pub found-apart : {A : Type 0} (x y : Result (Option A) Refused) → of_found x ≡ of_found y → x ≡ y
+found-apart (Ok (Some i)) (Ok (Some j)) e = cc
+found-apart (Ok (Some i)) (Ok None) e = cc
+found-apart (Ok None) (Ok (Some j)) e = cc
+found-apart (Ok None) (Ok None) e = refl
+found-apart (Ok (Some i)) (Err d) e = cc
+found-apart (Ok None) (Err d) e = cc
+found-apart (Err d) (Ok (Some i)) e = cc
+found-apart (Err d) (Ok None) e = cc
+found-apart (Err d) (Err e) p =
+    let n : number_of d.refusal ≡ number_of e.refusal = cc in
+    let q : d.place ≡ e.place = cc in
+    ap Err (same-place d e n q)
+
+pub verdict-apart : (x y : Result Bool Refused) → of_verdict x ≡ of_verdict y → x ≡ y
+verdict-apart (Ok true) (Ok true) e = refl
+verdict-apart (Ok true) (Ok false) e = cc
+verdict-apart (Ok false) (Ok true) e = cc
+verdict-apart (Ok false) (Ok false) e = refl
+verdict-apart (Ok true) (Err d) e = cc
+verdict-apart (Ok false) (Err d) e = cc
+verdict-apart (Err d) (Ok true) e = cc
+verdict-apart (Err d) (Ok false) e = cc
+verdict-apart (Err d) (Err e) p =
+    let n : number_of d.refusal ≡ number_of e.refusal = cc in
+    let q : d.place ≡ e.place = cc in
+    ap Err (same-place d e n q)

@@ -6,7 +6,15 @@ use Prim.Native.Nat.{ℕ}
 use contract.Lifetimes.{Lfts}
 use denote.Triple.Clauses.{AtExit}
 use borrow.Fn.Kinds.{ParamKind, ResultKind, Out, Dens, res_t, ended_of}
-use Rattle.type_layers.proofs.Apart.{verdict-apart}
+use Rattle.type_numbers.proofs.refusal.U64FromRefusal.from.Kinds as refusal-kinds
+use Rattle.type_numbers.proofs.refusal.U64FromRefusal.from.Reads as refusal
+use Rattle.type_numbers.proofs.Contexts.{one-reading}
+use Rattle.type_numbers.proofs.context.ContextTryFromU64.try_from.Kinds as context-kinds
+use Rattle.type_numbers.proofs.context.ContextTryFromU64.try_from.Reads as context
+use Rattle.type_numbers.proofs.effect.U64FromEffect.from.Kinds as effect-kinds
+use Rattle.type_numbers.proofs.effect.U64FromEffect.from.Reads as effect
+use Rattle.type_layers.proofs.answers.RefusedFromRefusal.from.Kinds as refused-kinds
+use Rattle.type_layers.proofs.answers.RefusedFromRefusal.from.Reads as refused
 use Rattle.type_layers.proofs.sorts.is_array.Kinds as is-array-kinds
 use Rattle.type_layers.proofs.sorts.is_array.Reads as is-array
 use Rattle.type_layers.proofs.sorts.is_slice.Kinds as is-slice-kinds
@@ -19,15 +27,22 @@ use Rattle.type_layers.proofs.outer_and_inner.outer.Kinds as outer-kinds
 use Rattle.type_layers.proofs.outer_and_inner.outer.Reads as outer
 use Rattle.type_layers.proofs.outer_and_inner.inner.Kinds as part-kinds
 use Rattle.type_layers.proofs.outer_and_inner.inner.Reads as inner
-use Rattle.type_layers.proofs.answers.Verdict.of.Kinds as of-kinds
-use Rattle.type_layers.proofs.answers.Verdict.of.Reads as of
 
 abbrev pub Single : (n : ℕ) (ps : List (ParamKind n)) (r : ResultKind n) → Out n ps r → Type 0
 Single n ps r Q =
     (κs : Lfts n) (a : Dens κs ps) (x y : (res_t r κs).Denot) (s t : AtExit (ended_of n ps r) κs) → Q κs a x s → Q κs a y t → x ≡ y
 
-pub of-single : Single 0 of-kinds.ps of-kinds.r of.Post
-of-single κs a x y s t p q = verdict-apart x y (p ∙ sym q)
+pub refusal-single : Single 0 refusal-kinds.ps refusal-kinds.r refusal.Post
+refusal-single κs a x y s t p q = p ∙ sym q
+
+pub context-single : Single 0 context-kinds.ps context-kinds.r context.Post
+context-single κs a x y s t p q = one-reading a.0 x y p q
+
+pub effect-single : Single 0 effect-kinds.ps effect-kinds.r effect.Post
+effect-single κs a x y s t p q = p ∙ sym q
+
+pub refused-single : Single 0 refused-kinds.ps refused-kinds.r refused.Post
+refused-single κs a x y s t p q = p ∙ sym q
 
 pub is-array-single : Single 0 is-array-kinds.ps is-array-kinds.r is-array.Post
 is-array-single κs a x y s t p q = p ∙ sym q

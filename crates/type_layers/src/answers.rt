@@ -1,25 +1,19 @@
-ghost use Rattle.std.specs.Prelude.{◌≡◌};
-ghost use Rattle.type_layers.specs.Answer.{of_verdict, truth};
+ghost use Rattle.type_layers.specs.Answer.{IsUnplaced};
 
-// What checks say: a number of what passes them, such as how many layers a type has, or a refusal.
-#[derive(Clone, Copy)]
-pub enum Checked {
-    Good(u64),
-    Refused { number: u64, place: u64 },
+use type_numbers::Refusal;
+
+// Why words, a table or numbers are refused, and where: the error of every answer.
+#[derive(Clone, Copy, Debug, PartialEq, Eq)]
+pub struct Refused {
+    pub refusal: Refusal,
+    pub place: u64,
 }
 
-// The answer to a question of yes or no.
-#[derive(Clone, Copy)]
-pub enum Verdict {
-    Yes,
-    No,
-    Refused { number: u64, place: u64 },
-}
+// Most refusals have no place, which is told as 0.
+impl From<Refusal> for Refused {
+    ghost from_gives = { IsUnplaced };
 
-impl Verdict {
-    pub fn of(yes: bool) -> Verdict
-        ensures { of_verdict result ≡ truth yes }
-    {
-        if yes { Verdict::Yes } else { Verdict::No }
+    fn from(refusal: Refusal) -> Refused {
+        Refused { refusal, place: 0 }
     }
 }

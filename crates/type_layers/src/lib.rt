@@ -5,6 +5,6 @@ mod answers;
 mod outer_and_inner;
 mod sorts;
 
-pub use answers::{Checked, Verdict};
+pub use answers::Refused;
 pub use outer_and_inner::{inner, outer};
 pub use sorts::{holds_inner, is_array, is_reference, is_slice};

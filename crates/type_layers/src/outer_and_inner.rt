@@ -8,15 +8,18 @@ use type_numbers::Kind;
 pub fn outer(a: &[u64]) -> u64
     ensures { result ≡ rules.outer (layers a.now) }
 {
-    if a.len() < 3 { Kind::NONE } else { a[0] }
+    match a {
+        [kind, _, _, ..] => *kind,
+        _ => Kind::NONE,
+    }
 }
 
 // The inner type: the caller's own words from the next layer on; of no layer no words.
 pub fn inner(a: &[u64]) -> &[u64]
     ensures { result.now ≡ inner_words a.now }
 {
-    if a.len() < 3 {
-        return &a[..0];
+    match a {
+        [_, _, _, inside @ ..] => inside,
+        _ => &a[..0],
     }
-    &a[3..]
 }

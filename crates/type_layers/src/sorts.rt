@@ -7,22 +7,22 @@ use type_numbers::Kind;
 pub fn is_array(k: u64) -> bool
     ensures { result ≡ rules.is_array k }
 {
-    (k == Kind::ARRAY)
-        | (k == Kind::ARRAY_WITH_NAMED_LENGTH)
-        | (k == Kind::ENDLESS_ARRAY)
-        | (k == Kind::ARRAYLIKE)
+    matches!(
+        k,
+        Kind::ARRAY | Kind::ARRAY_WITH_NAMED_LENGTH | Kind::ENDLESS_ARRAY | Kind::ARRAYLIKE
+    )
 }
 
 pub fn is_slice(k: u64) -> bool
     ensures { result ≡ rules.is_slice k }
 {
-    (k == Kind::SLICE) | (k == Kind::SLICE_POINTER)
+    matches!(k, Kind::SLICE | Kind::SLICE_POINTER)
 }
 
 pub fn is_reference(k: u64) -> bool
     ensures { result ≡ rules.is_reference k }
 {
-    (k == Kind::POINTER) | (k == Kind::VIEW)
+    matches!(k, Kind::POINTER | Kind::VIEW)
 }
 
 // Whether a layer of this kind holds an inner type.

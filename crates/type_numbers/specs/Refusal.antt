@@ -1,5 +1,7 @@
 -- "Refusal numbers and order"
-use Rattle.std.specs.Prelude.{ℕ}
+use Rattle.std.specs.Prelude.{ℕ, ◌≡◌}
+use Rattle.type_numbers.specs.declared.refusal.Refusal.{Refusal}
+use Rattle.type_numbers.specs.declared.refusal.Refusal.TheVariants as refusal
 
 -- "1 word count 0, over 48 or not a multiple of 3"
 abbrev pub bad_count : ℕ
@@ -68,3 +70,26 @@ bad_sheet = 16
 -- "17 stored size over 2^64-1 at any layer measured"
 abbrev pub size_too_large : ℕ
 size_too_large = 17
+
+-- The number of each.
+abbrev pub number_of : Refusal → ℕ
+number_of refusal.BadCount = bad_count
+number_of refusal.BadLayer = bad_layer
+number_of refusal.BadLeaf = bad_leaf
+number_of refusal.IllFormed = ill_formed
+number_of refusal.BadRequest = bad_request
+number_of refusal.NotInExtern = not_in_extern
+number_of refusal.Conflict = conflict
+number_of refusal.NoStepFits = no_step_fits
+number_of refusal.AddressOfAddress = address_of_address
+number_of refusal.SlicePointerUnsettled = slice_pointer_unsettled
+number_of refusal.NoMember = no_member
+number_of refusal.TableNotInOrder = table_not_in_order
+number_of refusal.TableFull = table_full
+number_of refusal.OutputTooShort = output_too_short
+number_of refusal.TooManyLayers = too_many_layers
+number_of refusal.BadSheet = bad_sheet
+number_of refusal.SizeTooLarge = size_too_large
+
+abbrev pub Numbers : Refusal → ℕ → Type 0
+Numbers r n = n ≡ number_of r

@@ -1,13 +1,29 @@
+ghost use Rattle.type_numbers.specs.Context.{Reads};
+
+use crate::refusal::Refusal;
+
 // A context of extern fixing, in the order of the rules and not of the Rust's enum.
-#[derive(Clone, Copy)]
-pub struct Context(pub u64);
+#[derive(Clone, Copy, Debug, PartialEq, Eq)]
+pub enum Context {
+    Const,
+    Parameter,
+    Returned,
+    Member,
+}
 
-impl Context {
-    pub const CONST: u64 = 0;
+// Any other number is no context, which is a bad request.
+impl TryFrom<u64> for Context {
+    type Error = Refusal;
 
-    pub const PARAMETER: u64 = 1;
+    ghost try_from_gives = { Reads };
 
-    pub const RETURNED: u64 = 2;
-
-    pub const MEMBER: u64 = 3;
+    fn try_from(number: u64) -> Result<Self, Refusal> {
+        match number {
+            0 => Ok(Context::Const),
+            1 => Ok(Context::Parameter),
+            2 => Ok(Context::Returned),
+            3 => Ok(Context::Member),
+            _ => Err(Refusal::BadRequest),
+        }
+    }
 }

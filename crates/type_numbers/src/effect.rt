@@ -1,15 +1,19 @@
+ghost use Rattle.type_numbers.specs.Effect.{Numbers};
+
 // What an accepted change did.
-#[derive(Clone, Copy)]
-pub struct Effect(pub u64);
+#[derive(Clone, Copy, Debug, PartialEq, Eq)]
+pub enum Effect {
+    Kept,
+    TypeReplaced,
+    BothReplaced,
+    Inserted,
+    Overwritten,
+}
 
-impl Effect {
-    pub const KEPT: u64 = 0;
+impl From<Effect> for u64 {
+    ghost from_gives = { Numbers };
 
-    pub const TYPE_REPLACED: u64 = 1;
-
-    pub const BOTH_REPLACED: u64 = 2;
-
-    pub const INSERTED: u64 = 3;
-
-    pub const OVERWRITTEN: u64 = 4;
+    fn from(effect: Effect) -> u64 {
+        effect as u64
+    }
 }

@@ -1,7 +1,6 @@
-// The numbers of the rules, by name: kinds, steps, marks, contexts, coercions, states, effects, refusals, limits. In the Rust: `enum ValueType`, `enum FixContext`.
+// The numbers of the rules, by name: kinds, steps, marks, contexts, states, effects, refusals, limits. In the Rust: `enum ValueType`, `enum FixContext`.
 #![tactic(auto)]
 
-mod coercion_number;
 mod context;
 mod effect;
 mod kind;
@@ -11,7 +10,6 @@ mod refusal;
 mod state;
 mod step_kind;
 
-pub use coercion_number::CoercionNumber;
 pub use context::Context;
 pub use effect::Effect;
 pub use kind::Kind;
