@@ -1,4 +1,3 @@
--- What the proofs of several functions use, and what follows from the definitions.
+-- What follows from the definitions.
 pub mod Cases
-pub mod Decided
 pub mod Single

@@ -1,8 +1,6 @@
 // What one round decides.
-#[derive(Clone, Copy)]
+#[derive(Clone, Copy, Debug, PartialEq, Eq)]
 pub enum Turn {
-    // No step fits.
-    Stuck,
     // The step of this kind, Autoderef or Autoview: one layer in, nothing taken.
     Auto(u64),
     // The asked Element, with this mark: so many layers in.
