@@ -1,14 +1,13 @@
 -- Records read out of columns.
 -- Assumes nothing.
 use mathlib.Core.Path.{◌≡◌, refl, sym, ap, ◌∙◌}
-use mathlib.Core.Bool.{Bool, cond}
 use mathlib.Core.List.{List, [], ◌∷◌, ◌++◌}
 use Prim.Native.Nat.{ℕ, zero, suc, ◌+◌, ◌-◌, ◌<◌, ◌≤◌}
 use native.Mathlib.Nat.{zero-add, not-suc-le-zero}
 use native.Mathlib.Numerals.{add-one}
 use native.Mathlib.Omega.{arith}
 use lib.ListN.{length, get_or}
-use borrow.Author.Tests.{lt-ltb, le-ltb}
+use borrow.Author.Tests.{lt-ltb}
 use Rattle.symbol_columns.specs.Record.{vacant}
 use Rattle.symbol_columns.specs.AsCoded.{row_at, read_from, under, row_under}
 use Rattle.symbol_columns.specs.declared.symbol.Symbol.{Symbol}
@@ -62,15 +61,6 @@ last_row ws i (suc k) =
 
 pub read-last : (ws : List ℕ) (i k : ℕ) → read_from ws i (k + 1) ≡ read_from ws i k ++ (row_at ws (i + k) ∷ [])
 read-last ws i k = ap (read_from ws i) (add-one k) ∙ last_row ws i k
-
--- a row under an id
-pub row_in : (ws : List ℕ) (i id : ℕ) (s : Symbol) → i < 128 → s ≡ under id (row_at ws i) → s ≡ row_under ws i id
-unfolding row_under
-row_in ws i id s h e = e ∙ sym (ap (λ (t : Bool). cond t (under id (row_at ws i)) (under id vacant)) (lt-ltb i 128 h))
-
-pub row-past : (ws : List ℕ) (i id : ℕ) (s : Symbol) → 128 ≤ i → s ≡ under id vacant → s ≡ row_under ws i id
-unfolding row_under
-row-past ws i id s h e = e ∙ sym (ap (λ (t : Bool). cond t (under id (row_at ws i)) (under id vacant)) (le-ltb i 128 h))
 
 -- a row under its own id is its record
 pub row-found : (flat : List ℕ) (n id k : ℕ) (s : Symbol) → n ≤ 128 → k < n → (get_or (read_from flat 0 n) k vacant).id ≡ id →

@@ -5,20 +5,15 @@ use crate::column::{Column, Columns};
 use crate::symbol::Symbol;
 use type_numbers::{Limit, State};
 
-fn bit(b: bool) -> u64
-    ensures { result ≡ rows.bit b }
-{
-    if b { 1 } else { 0 }
-}
-
 // Writes a record's six words into the six columns, at its row, if there is one: ids, authorities, places, states, layer
 // counts, marks, 128 words each.
+#[tactic(auto, unfolding(crate::specs::AsCoded::put_row))]
 pub fn put_row(flat: &mut Columns, i: usize, s: Symbol)
     ensures { flat.new ≡ rows.put_row flat.old i s }
 {
     if i < Limit::RECORDS {
-        flat[i] = s.id as u64;
-        flat[i + Column::AUTHORITY] = bit(s.authority);
+        flat[i] = u64::from(s.id);
+        flat[i + Column::AUTHORITY] = u64::from(s.authority);
         flat[i + Column::PLACE] = s.place;
         flat[i + Column::STATE] = s.state;
         flat[i + Column::LAYERS] = s.layers;
@@ -27,6 +22,7 @@ pub fn put_row(flat: &mut Columns, i: usize, s: Symbol)
 }
 
 // The record of a row, under an id; past the last row, a free one.
+#[tactic(auto, unfolding(crate::specs::AsCoded::row_under, crate::specs::AsCoded::row_at))]
 pub fn row(flat: &Columns, i: usize, id: u32) -> Symbol
     ensures { result ≡ rows.row_under flat.now i id }
 {
