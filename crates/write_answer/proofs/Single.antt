@@ -6,10 +6,10 @@ use Rattle.write_answer.proofs.answer.accepted.Kinds as accepted-kinds
 use Rattle.write_answer.proofs.answer.accepted.Reads as accepted
 use Rattle.write_answer.proofs.answer.refused.Kinds as refused-kinds
 use Rattle.write_answer.proofs.answer.refused.Reads as refused
-use Rattle.write_answer.proofs.answer.checked.Kinds as checked-kinds
-use Rattle.write_answer.proofs.answer.checked.Reads as checked
-use Rattle.write_answer.proofs.answer.verdict.Kinds as verdict-kinds
-use Rattle.write_answer.proofs.answer.verdict.Reads as verdict
+use Rattle.write_answer.proofs.answer.AnswerFromResultU64Refused.from.Kinds as checked-kinds
+use Rattle.write_answer.proofs.answer.AnswerFromResultU64Refused.from.Reads as checked
+use Rattle.write_answer.proofs.answer.AnswerFromResultBoolRefused.from.Kinds as verdict-kinds
+use Rattle.write_answer.proofs.answer.AnswerFromResultBoolRefused.from.Reads as verdict
 
 pub accepted-single : Single 0 accepted-kinds.ps accepted-kinds.r accepted.Post
 accepted-single κs a x y s t p q = p ∙ sym q
@@ -17,8 +17,10 @@ accepted-single κs a x y s t p q = p ∙ sym q
 pub refused-single : Single 0 refused-kinds.ps refused-kinds.r refused.Post
 refused-single κs a x y s t p q = p ∙ sym q
 
+-- of a number, or why there is none
 pub checked-single : Single 0 checked-kinds.ps checked-kinds.r checked.Post
 checked-single κs a x y s t p q = p ∙ sym q
 
+-- of yes or no, or why there is neither
 pub verdict-single : Single 0 verdict-kinds.ps verdict-kinds.r verdict.Post
 verdict-single κs a x y s t p q = p ∙ sym q

@@ -1,7 +1,8 @@
 -- The paper's answers in the two words that C is handed.
-use Rattle.std.specs.Prelude.{ℕ}
+use Rattle.std.specs.Prelude.{Bool, ℕ, Result, ◌≡◌}
 use Rattle.type_layers.specs.Answer as paper
-use Rattle.type_layers.specs.Answer.{given, nothing, refused}
+use Rattle.type_layers.specs.Answer.{given, nothing, refused, of_result, of_verdict}
+use Rattle.type_layers.specs.declared.answers.Refused.{Refused}
 use Rattle.write_answer.specs.declared.answer.Answer.{Answer}
 
 -- Accepted, with a value.
@@ -17,3 +18,10 @@ unfoldable pub flat : paper.Answer ℕ → Answer
 flat (given v) = accepted v
 flat nothing = accepted 0
 flat (refused n p) = not_accepted n p
+
+-- The answer to a question for a number, and to one for yes or no.
+abbrev pub FlatNumber : Result ℕ Refused → Answer → Type 0
+FlatNumber r a = a ≡ flat (of_result r)
+
+abbrev pub FlatVerdict : Result Bool Refused → Answer → Type 0
+FlatVerdict r a = a ≡ flat (of_verdict r)

@@ -1,8 +1,8 @@
 ghost use Rattle.std.specs.Prelude.{◌≡◌};
-ghost use Rattle.type_layers.specs.Answer.{of_checked, of_verdict};
+ghost use Rattle.type_numbers.specs.Refusal.{number_of};
 ghost use Rattle.write_answer.specs.Flat as rules;
 
-use type_layers::{Checked, Verdict};
+use type_layers::Refused;
 
 // An answer as C has it: the refusal's number, or 0; and the value, or the refusal's place.
 #[repr(C)]
@@ -18,30 +18,37 @@ pub fn accepted(value: u64) -> Answer
     Answer { refusal: 0, value }
 }
 
-pub fn refused(number: u64, place: u64) -> Answer
-    ensures { result ≡ rules.not_accepted number place }
+pub fn refused(e: Refused) -> Answer
+    ensures { result ≡ rules.not_accepted (number_of e.refusal) e.place }
 {
     Answer {
-        refusal: number,
-        value: place,
+        refusal: u64::from(e.refusal),
+        value: e.place,
     }
 }
 
-pub fn checked(c: Checked) -> Answer
-    ensures { result ≡ rules.flat (of_checked c) }
-{
-    match c {
-        Checked::Good(n) => accepted(n),
-        Checked::Refused { number, place } => refused(number, place),
+// A number, or why there is none.
+impl From<Result<u64, Refused>> for Answer {
+    ghost from_gives = { rules.FlatNumber };
+
+    #[tactic(auto, unfolding(crate::specs::Flat::flat))]
+    fn from(number: Result<u64, Refused>) -> Answer {
+        match number {
+            Ok(n) => accepted(n),
+            Err(e) => refused(e),
+        }
     }
 }
 
-pub fn verdict(v: Verdict) -> Answer
-    ensures { result ≡ rules.flat (of_verdict v) }
-{
-    match v {
-        Verdict::Yes => accepted(1),
-        Verdict::No => accepted(0),
-        Verdict::Refused { number, place } => refused(number, place),
+// Yes is 1 and no is 0, or why there is neither.
+impl From<Result<bool, Refused>> for Answer {
+    ghost from_gives = { rules.FlatVerdict };
+
+    #[tactic(auto, unfolding(crate::specs::Flat::flat))]
+    fn from(verdict: Result<bool, Refused>) -> Answer {
+        match verdict {
+            Ok(yes) => accepted(u64::from(yes)),
+            Err(e) => refused(e),
+        }
     }
 }

@@ -3,4 +3,4 @@
 
 mod answer;
 
-pub use answer::{Answer, accepted, checked, refused, verdict};
+pub use answer::{Answer, accepted, refused};
