@@ -14,13 +14,11 @@ fn has_element(k: u64) -> bool
 fn inner_if(there: bool, a: &[u64]) -> &[u64]
     ensures { result.now ≡ inner_if there a.now }
 {
-    if there {
-        return inner(a);
-    }
-    &a[..0]
+    if there { inner(a) } else { &a[..0] }
 }
 
 // The element type of an array or a slice; of any other type no words.
+#[tactic(auto, unfolding(crate::specs::Parts::element_of))]
 pub fn get_element_type(a: &[u64]) -> &[u64]
     ensures { result.now ≡ element_of a.now }
 {
@@ -28,6 +26,7 @@ pub fn get_element_type(a: &[u64]) -> &[u64]
 }
 
 // The type that a Pointer points to; of any other type no words.
+#[tactic(auto, unfolding(crate::specs::Parts::pointee_of))]
 pub fn get_pointee_type(a: &[u64]) -> &[u64]
     ensures { result.now ≡ pointee_of a.now }
 {
@@ -35,6 +34,7 @@ pub fn get_pointee_type(a: &[u64]) -> &[u64]
 }
 
 // The type that a View views; of any other type no words.
+#[tactic(auto, unfolding(crate::specs::Parts::viewee_of))]
 pub fn get_viewee_type(a: &[u64]) -> &[u64]
     ensures { result.now ≡ viewee_of a.now }
 {
@@ -42,15 +42,12 @@ pub fn get_viewee_type(a: &[u64]) -> &[u64]
 }
 
 // The type without the Pointers and Views that stand outside everything else.
+#[tactic(auto, using(crate::proofs::Dereferenced::dereferenced))]
 pub fn fully_dereferenced(a: &[u64]) -> &[u64]
     ensures { result.now ≡ fully_dereferenced a.now }
 {
-    if a.len() < 3 {
-        return a;
-    }
-    if is_reference(a[0]) {
-        fully_dereferenced(&a[3..])
-    } else {
-        a
+    match a {
+        [kind, _, _, inside @ ..] if is_reference(*kind) => fully_dereferenced(inside),
+        _ => a,
     }
 }
