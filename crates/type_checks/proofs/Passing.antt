@@ -1,130 +1,156 @@
 -- Words that pass the checks: layers that hold an inner type, one after the other, and a leaf.
 -- Assumes nothing.
 use mathlib.Core.Path.{◌≡◌, refl, sym, ◌∙◌}
-use mathlib.Core.Bool.{Bool, true, false, cond, not, ◌&&◌, ◌||◌, and-false, or-true, true≢false, false≢true}
-use mathlib.Core.List.{List}
+use mathlib.Core.Bool.{Bool, true, false, cond, not, ◌&&◌, ◌||◌, and-false, or-true, false≢true}
+use mathlib.Core.List.{List, [], ◌∷◌}
 use Prim.Native.Nat.{ℕ, ◌+◌, ◌/◌, ◌%◌, ◌≤◌, ◌<◌}
 use native.Mathlib.Omega.{arith}
-use lib.Dec.{eqb, ltb}
-use lib.ListN.{length, get_or}
-use borrow.Author.Tests.{ltb-false, le-ltb, eqb-false, eq-eqb, ne_eqb, not-true, not-false}
-use Rattle.type_layers.specs.Layers.{layers, holds_inner}
+use lib.Dec.{eqb, leb, ltb}
+use lib.ListN.{length, drop, get_or}
+use borrow.Author.Tests.{le-ltb, lt-leb, lt-ltb, eqb-true, eqb-false}
+use Rattle.type_layers.specs.Layers.{Layer, layer, layers, holds_inner}
+use Rattle.type_layers.specs.AsCoded.{head}
+use Rattle.type_layers.proofs.Words.{part, part-is}
 use Rattle.type_layers.specs.Answer.{given, refused, is_given}
-use Rattle.type_checks.specs.Check.{Place, at, nowhere, bad_count, good_layer, bad_word, bad_layer, misplaced, unless, check_of}
-use Rattle.type_layers.proofs.Decide.{both, neither}
-use Rattle.type_checks.proofs.Theorems.{good-nowhere, nowhere-good}
-use Rattle.type_checks.proofs.Checks.{layer_at, Passed, start, turn, miscounted, bad, fine}
+use Rattle.type_checks.specs.Check.{Place, at, nowhere, bad_count, good_layer, bad_word, word_in, bad_layer, misplaced, unless, check_of}
+use Rattle.type_checks.specs.AsCoded.{good_words}
+use Rattle.type_checks.proofs.Theorems.{is_nowhere, told-exactly}
 
--- a misplaced layer is refused, if not for itself
-found-bad : (ws : List ℕ) (word place found : ℕ) → Passed ws word place found → (found ≡ 16 → ⊥) → false ≡ is_given (check_of ws)
-unfolding check_of
-found-bad ws word place found i n =
-    rw (← i.first, ne_eqb found 16 n) (refused-either (bad_count (length ws)) (bad_layer 0 (layers ws)))
+-- a layer of another word count is left over
+left-over : (ws : List ℕ) → (length ws % 3 ≡ 0 → ⊥) → good_words ws ≡ false
+unfolding good_words
+left-over [] n = refl
+left-over (k ∷ []) n = refl
+left-over (k ∷ x ∷ []) n = refl
+left-over (k ∷ x ∷ m ∷ []) n = absurd (n refl)
+left-over (k ∷ x ∷ m ∷ w ∷ ws) n =
+    rw (left-over (w ∷ ws) (λ e. n (omega (arith, e)))) (and-false (holds_inner k && good_layer (layer k x m)))
+
+nothing_there : (ws : List ℕ) → length ws ≡ 0 → good_words ws ≡ false
+unfolding good_words
+nothing_there [] e = refl
+nothing_there (k ∷ ws) e = absurd (omega (arith, e))
+
+-- as the code reads the words
+abbrev holder : List ℕ → Bool
+holder ws = holds_inner (get_or ws 0 0) && good_layer (head ws)
+
+pub few_words : (ws : List ℕ) → length ws < 3 → false ≡ good_words ws
+unfolding good_words
+few_words [] l = refl
+few_words (k ∷ []) l = refl
+few_words (k ∷ n ∷ []) l = refl
+few_words (k ∷ n ∷ m ∷ ws) l = absurd (omega arith)
+
+last_words : (ws : List ℕ) → 3 ≤ length ws → length ws < 4 → (not (holds_inner (get_or ws 0 0)) && good_layer (head ws)) ≡ good_words ws
+unfolding good_words
+last_words [] l h = absurd (omega arith)
+last_words (k ∷ []) l h = absurd (omega arith)
+last_words (k ∷ n ∷ []) l h = absurd (omega arith)
+last_words (k ∷ n ∷ m ∷ []) l h = refl
+last_words (k ∷ n ∷ m ∷ w ∷ ws) l h = absurd (omega arith)
+
+pub last-leaf : (ws : List ℕ) → 3 ≤ length ws → length ws < 4 → (g : Bool) → g ≡ (not (holds_inner (get_or ws 0 0)) && good_layer (head ws)) → g ≡ good_words ws
+last-leaf ws l h g e = e ∙ last_words ws l h
+
+pub more_words : (ws : List ℕ) → 4 ≤ length ws → (holder ws && good_words (part ws 3)) ≡ good_words ws
+unfolding good_words
+more_words ws l = rw (part-is ws 3) (by_word ws l)
   where
-    refused-either : (b : Bool) (p : Place) → false ≡ is_given (cond b (refused 1 0) (unless p 2 (refused 3 found)))
-    refused-either true p = refl
-    refused-either false (at q) = refl
-    refused-either false nowhere = refl
+    by_word : (ws : List ℕ) → 4 ≤ length ws → (holder ws && good_words (drop 3 ws)) ≡ good_words ws
+    by_word [] l = absurd (omega arith)
+    by_word (k ∷ []) l = absurd (omega arith)
+    by_word (k ∷ n ∷ []) l = absurd (omega arith)
+    by_word (k ∷ n ∷ m ∷ []) l = absurd (omega arith)
+    by_word (k ∷ n ∷ m ∷ w ∷ ws) l = refl
 
--- what the checks know before a layer while none is misplaced, by the word alone
-abbrev Fine : List ℕ → ℕ → Type 0
-Fine ws word = Passed ws word (word / 3) 16
+module _ (ws : List ℕ) (l : 4 ≤ length ws) (g : Bool) (e : g ≡ holder ws) where
+  pub bad-holder : g ≡ false → g ≡ good_words ws
+  bad-holder f = rw f (sym (sym (more_words ws l) ∙ rw (← e, f)))
 
-module _ (ws : List ℕ) (word : ℕ) (i : Fine ws word) (h : word < length ws) where
-  bad-layer : bad_count (length ws) ≡ false → good_layer (layer_at ws word) ≡ false → false ≡ is_given (check_of ws)
-  bad-layer c f = by_word (bad_word (layer_at ws word)) refl
+  pub good-holder : (r : Bool) → g ≡ true → r ≡ good_words (part ws 3) → r ≡ good_words ws
+  good-holder r f q = q ∙ (sym (rw (← e, f)) ∙ more_words ws l)
+
+-- what the two checks of the layers find
+abbrev found : Place → Place → Bool
+found p q = is_nowhere p && is_nowhere q
+
+module _ (x : Layer) (p : ℕ) where
+  last : (not (holds_inner x.kind) && good_layer x) ≡ found (bad_layer p (x ∷ [])) (misplaced p (x ∷ []))
+  unfolding bad_layer misplaced
+  last = rw (told-exactly x) (by-tests (holds_inner x.kind) (bad_word x))
     where
-      by_word : (p : Place) → bad_word (layer_at ws word) ≡ p → false ≡ is_given (check_of ws)
-      by_word (at w) e = rw (← bad ws (word / 3) 16 c word w i h e)
-      by_word nowhere e = absurd (false≢true (sym f ∙ nowhere-good (layer_at ws word) e))
+      by-tests : (h : Bool) (w : Place) → (not h && is_nowhere w) ≡ found (word_in p w nowhere) (cond h (at p) nowhere)
+      by-tests true (at w) = refl
+      by-tests true nowhere = refl
+      by-tests false (at w) = refl
+      by-tests false nowhere = refl
 
-  module _ (f : good_layer (layer_at ws word) ≡ true) (wrong : Bool)
-      (g : wrong ≡ cond (holds_inner (get_or ws word 0)) (eqb (word + 3) (length ws)) (not (eqb (word + 3) (length ws)))) where
-    bad-place : wrong ≡ true → false ≡ is_given (check_of ws)
-    bad-place w =
-        found-bad ws (word + 3) (word / 3 + 1) (word / 3)
-        (turn ws word (word / 3) 16 i h (good-nowhere (layer_at ws word) f) (word / 3) wrong g (rw w))
-        (λ z. omega (arith, i.few))
+  before : (y : Layer) (a : List Layer) (good : Bool) → good ≡ found (bad_layer (p + 1) (y ∷ a)) (misplaced (p + 1) (y ∷ a)) →
+      (holds_inner x.kind && good_layer x && good) ≡ found (bad_layer p (x ∷ y ∷ a)) (misplaced p (x ∷ y ∷ a))
+  unfolding bad_layer misplaced
+  before y a good e =
+      rw (told-exactly x, e) (by-tests (holds_inner x.kind) (bad_word x) (bad_layer (p + 1) (y ∷ a)) (misplaced (p + 1) (y ∷ a)))
+    where
+      by-tests : (h : Bool) (w b m : Place) → (h && is_nowhere w && found b m) ≡ found (word_in p w b) (cond h m (at p))
+      by-tests true (at w) b m = refl
+      by-tests true nowhere b m = refl
+      by-tests false (at w) b m = refl
+      by-tests false nowhere (at v) m = refl
+      by-tests false nowhere nowhere m = refl
 
-    onward : wrong ≡ false → Fine ws (word + 3)
-    onward w =
-        let next : (word + 3) / 3 ≡ word / 3 + 1 = omega arith in
-        rw next (turn ws word (word / 3) 16 i h (good-nowhere (layer_at ws word) f) 16 wrong g (rw w))
-
--- what the code knows before a layer: check 1 may still fail
-pub record Ahead (ws : List ℕ) (word : ℕ) : Type 0 where
-  pub few : length ws ≤ 48
-  pub third : word % 3 ≡ 0
-  pub ahead : word < length ws
-  pub so_far : bad_count (length ws) ≡ false → Fine ws word
+-- the test of whole layers is that of the checks 2 and 3
+layered : (p : ℕ) (ws : List ℕ) → 0 < length ws → length ws % 3 ≡ 0 → good_words ws ≡ found (bad_layer p (layers ws)) (misplaced p (layers ws))
+unfolding good_words layers
+layered p [] l e = absurd (omega arith)
+layered p (k ∷ []) l e = absurd (omega (arith, e))
+layered p (k ∷ n ∷ []) l e = absurd (omega (arith, e))
+layered p (k ∷ n ∷ m ∷ []) l e = last (layer k n m) p
+layered p (k ∷ n ∷ m ∷ w ∷ []) l e = absurd (omega (arith, e))
+layered p (k ∷ n ∷ m ∷ w ∷ v ∷ []) l e = absurd (omega (arith, e))
+layered p (k ∷ n ∷ m ∷ w ∷ v ∷ u ∷ ws) l e =
+    before (layer k n m) p (layer w v u) (layers ws) (good_words (w ∷ v ∷ u ∷ ws)) (layered (p + 1) (w ∷ v ∷ u ∷ ws) (omega arith) (omega (arith, e)))
 
 module _ (ws : List ℕ) where
-  pub begin : (eqb (length ws) 0 || ltb 48 (length ws)) ≡ false → Ahead ws 0
-  begin e =
-      let n = neither (eqb (length ws) 0) (ltb 48 (length ws)) e in
-      record {
-        few = ltb-false 48 (length ws) n.1;
-        third = refl;
-        ahead = omega (arith, eqb-false (length ws) 0 n.0);
-        so_far = start ws;
-      }
-
   fails-count : bad_count (length ws) ≡ true → false ≡ is_given (check_of ws)
-  fails-count c = rw (← miscounted ws c)
+  unfolding check_of
+  fails-count e = rw e
 
-  pub too_many : (eqb (length ws) 0 || ltb 48 (length ws)) ≡ true → false ≡ is_given (check_of ws)
-  too_many e = fails-count (rw e)
+  both-pass : bad_count (length ws) ≡ false → found (bad_layer 0 (layers ws)) (misplaced 0 (layers ws)) ≡ is_given (check_of ws)
+  unfolding check_of
+  both-pass e = rw e (by-places (bad_layer 0 (layers ws)) (misplaced 0 (layers ws)))
+    where
+      by-places : (p q : Place) → found p q ≡ is_given (unless p 2 (unless q 3 (given (length ws / 3))))
+      by-places (at p) q = refl
+      by-places nowhere (at q) = refl
+      by-places nowhere nowhere = refl
 
-  module _ (word : ℕ) (i : Ahead ws word) where
-    pub left_over : length ws ≤ word + 3 → (word + 3 ≡ length ws → ⊥) → false ≡ is_given (check_of ws)
-    left_over l n =
-        let rest : (length ws % 3 ≡ 0) → ⊥ = λ z. omega (arith, i.third, i.ahead, n) in
-        fails-count (rw (ne_eqb (length ws % 3) 0 rest) (or-true (eqb (length ws) 0 || ltb 48 (length ws))))
+  -- over 48 words
+  too_many : 48 < length ws → false ≡ is_given (check_of ws)
+  too_many l = fails-count (rw (lt-ltb 48 (length ws) l) (by_zero (eqb (length ws) 0)))
+    where
+      by_zero : (b : Bool) → (b || true || not (eqb (length ws % 3) 0)) ≡ true
+      by_zero true = refl
+      by_zero false = refl
 
-    -- a layer that is not the last
-    module _ (l : word + 3 < length ws) (g : Bool) (e : g ≡ (holds_inner (get_or ws word 0) && good_layer (layer_at ws word))) where
-      early : eqb (word + 3) (length ws) ≡ false
-      early = ne_eqb (word + 3) (length ws) (λ z. omega arith)
+  -- the layers' test, of at most 48 words
+  passes : length ws ≤ 48 → good_words ws ≡ is_given (check_of ws)
+  passes l = by_count (eqb (length ws) 0) (eqb (length ws % 3) 0) refl refl
+    where
+      by_count : (z w : Bool) → eqb (length ws) 0 ≡ z → eqb (length ws % 3) 0 ≡ w → good_words ws ≡ is_given (check_of ws)
+      by_count true w f g =
+          nothing_there ws (eqb-true (length ws) 0 f) ∙ fails-count (rw f)
+      by_count false false f g =
+          left-over ws (eqb-false (length ws % 3) 0 g) ∙ fails-count (rw (g) (or-true (eqb (length ws) 0 || ltb 48 (length ws))))
+      by_count false true f g =
+          layered 0 ws (omega (arith, eqb-false (length ws) 0 f)) (eqb-true (length ws % 3) 0 g)
+          ∙ both-pass (rw (f, le-ltb 48 (length ws) l, g))
 
-      pub holder-bad : not g ≡ true → false ≡ is_given (check_of ws)
-      holder-bad n = by_count (bad_count (length ws)) refl
-        where
-          by-layer : bad_count (length ws) ≡ false → (x y : Bool) → holds_inner (get_or ws word 0) ≡ x → good_layer (layer_at ws word) ≡ y → false ≡ is_given (check_of ws)
-          by-layer c x false p q = bad-layer ws word (i.so_far c) i.ahead c q
-          by-layer c false true p q = bad-place ws word (i.so_far c) i.ahead q true (rw (p, early)) refl
-          by-layer c true true p q = absurd (true≢false (sym (rw (p, q) at e) ∙ not-true g n))
+  pub passes_by : (good : Bool) → length ws ≤ 48 → good ≡ good_words ws → good ≡ is_given (check_of ws)
+  passes_by good l e = e ∙ passes l
 
-          by_count : (b : Bool) → bad_count (length ws) ≡ b → false ≡ is_given (check_of ws)
-          by_count true c = fails-count c
-          by_count false c = by-layer c (holds_inner (get_or ws word 0)) (good_layer (layer_at ws word)) refl refl
-
-      pub holder-good : not g ≡ false → Ahead ws (word + 3)
-      holder-good n =
-          let f = both (holds_inner (get_or ws word 0)) (good_layer (layer_at ws word)) (sym e ∙ not-false g n) in
-          record {
-            few = i.few;
-            third = omega (arith, i.third);
-            ahead = l;
-            so_far = λ c. onward ws word (i.so_far c) i.ahead f.1 false (rw (f.0, early)) refl;
-          }
-
-    -- the last
-    pub leaf_last : (g : Bool) → word + 3 ≡ length ws → g ≡ (not (holds_inner (get_or ws word 0)) && good_layer (layer_at ws word)) →
-        g ≡ is_given (check_of ws)
-    leaf_last g l e = e ∙ by-layer (holds_inner (get_or ws word 0)) (good_layer (layer_at ws word)) refl refl
-      where
-        right : bad_count (length ws) ≡ false
-        right =
-            rw (ne_eqb (length ws) 0 (λ z. omega arith), le-ltb 48 (length ws) i.few, eq-eqb (length ws % 3) 0 (omega (arith, i.third, l)))
-
-        last : eqb (word + 3) (length ws) ≡ true
-        last = eq-eqb (word + 3) (length ws) l
-
-        by-layer : (x y : Bool) → holds_inner (get_or ws word 0) ≡ x → good_layer (layer_at ws word) ≡ y → (not x && y) ≡ is_given (check_of ws)
-        by-layer x false p q = and-false (not x) ∙ bad-layer ws word (i.so_far right) i.ahead right q
-        by-layer true true p q = bad-place ws word (i.so_far right) i.ahead q true (rw (p, last)) refl
-        by-layer false true p q =
-            rw (← fine ws ((word + 3) / 3) 16 right (word + 3) (onward ws word (i.so_far right) i.ahead q false (rw (p, last)) refl) (omega (arith, l)) refl)
+  pub fails_by : 48 < length ws → leb (length ws) 48 ≡ is_given (check_of ws)
+  fails_by l = lt-leb (length ws) 48 l ∙ too_many l
 
 -- words that pass are as many layers as they are threes of words
 pub counted-by : (ws : List ℕ) (good : Bool) → good ≡ is_given (check_of ws) → good ≡ true → given (length ws / 3) ≡ check_of ws

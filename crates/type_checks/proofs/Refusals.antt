@@ -3,16 +3,17 @@
 use mathlib.Core.Path.{◌≡◌, refl, sym, ap, ◌∙◌}
 use mathlib.Core.Bool.{Bool, true, false, true≢false, false≢true}
 use Prim.Native.Nat.{ℕ}
-use Rattle.type_layers.specs.Answer.{Answer, given, nothing, refused, of_checked, next, truth, is_given}
-use Rattle.type_layers.specs.declared.answers.Checked.{Checked}
-use Rattle.type_layers.specs.declared.answers.Checked.TheVariants.{Good, Refused}
+use Rattle.std.specs.Prelude.{Result, Ok, Err}
+use Rattle.type_numbers.specs.Refusal.{number_of}
+use Rattle.type_layers.specs.Answer.{Answer, given, nothing, refused, of_result, next, truth, is_given}
+use Rattle.type_layers.specs.declared.answers.Refused.{Refused}
 
-module _ {A : Type 0} (x : Checked) (a : Answer ℕ) (e : of_checked x ≡ a) (c : Answer A) where
-  pub refuses : (n p : ℕ) → x ≡ Refused n p → refused n p ≡ next a c
-  refuses n p h = rw (← e, h)
+module _ {A B : Type 0} (x : Result B Refused) (a : Answer B) (e : of_result x ≡ a) (c : Answer A) where
+  pub refuses : (d : Refused) → x ≡ Err d → refused (number_of d.refusal) d.place ≡ next a c
+  refuses d h = rw (← e, h)
 
-  pub accepts : (i : ℕ) (r : Answer A) → x ≡ Good i → r ≡ c → r ≡ next a c
-  accepts i r h q = rw (← e, h) q
+  pub accepts : (v : B) (r : Answer A) → x ≡ Ok v → r ≡ c → r ≡ next a c
+  accepts v r h q = rw (← e, h) q
 
 -- yes or no, where the code holds the rule's outcome
 pub answered : (f g : Bool) (r : Answer ℕ) → r ≡ truth f → f ≡ g → r ≡ truth g
@@ -28,9 +29,9 @@ module _ (x y : Answer ℕ) (good : Bool) (e : good ≡ is_given x) where
       by_answer nothing g = absurd (false≢true g)
       by_answer (refused n p) g = absurd (false≢true g)
 
-  pub left-fails : (v : Checked) → good ≡ false → of_checked v ≡ x → of_checked v ≡ next x y
-  left-fails (Good n) f q = absurd (true≢false (ap is_given q ∙ (sym e ∙ f)))
-  left-fails (Refused n p) f q = rw (← q)
+  pub left-fails : (v : Result ℕ Refused) → good ≡ false → of_result v ≡ x → of_result v ≡ next x y
+  left-fails (Ok n) f q = absurd (true≢false (ap is_given q ∙ (sym e ∙ f)))
+  left-fails (Err d) f q = rw (← q)
 
 -- what follows checks that pass
 pub passed : {A : Type 0} (x : Answer ℕ) (c : Answer A) → is_given x ≡ true → next x c ≡ c

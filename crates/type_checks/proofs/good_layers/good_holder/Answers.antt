@@ -1,11 +1,11 @@
-use Rattle.type_checks.proofs.Within.{holds_not, holds_plain, holds_more}
+use Rattle.type_checks.proofs.Within.{of_array, of_named, of_holder}
 use Rattle.type_checks.proofs.good_layers.good_holder.Goals as goal
 
-pub returns-then-not-holds_inner : goal.returns-then-not-holds_inner
-returns-then-not-holds_inner c = search holds_not
+pub returns-in-14 : goal.returns-in-14
+returns-in-14 c = search of_array
 
-pub returns-then-n-m : goal.returns-then-n-m
-returns-then-n-m c = search holds_plain
+pub returns-in-15 : goal.returns-in-15
+returns-in-15 c = search of_named
 
-pub returns : goal.returns
-returns c = search holds_more
+pub returns-in_default : goal.returns-in_default
+returns-in_default c = search of_holder

@@ -1,8 +1,14 @@
-use Rattle.type_checks.proofs.Within.{leaf-plain, leaf-more}
+use Rattle.type_checks.proofs.Within.{of_struct, of_word, of-unresolved, of_plain}
 use Rattle.type_checks.proofs.good_layers.good_leaf.Goals as goal
 
-pub returns-then-k-lt-ARRAY : goal.returns-then-k-lt-ARRAY
-returns-then-k-lt-ARRAY c = search leaf-plain
+pub returns-in-20 : goal.returns-in-20
+returns-in-20 c = search of_struct
 
-pub returns : goal.returns
-returns c = search leaf-more
+pub returns-in-21 : goal.returns-in-21
+returns-in-21 c = search of_word
+
+pub returns-in-22 : goal.returns-in-22
+returns-in-22 c = search of-unresolved
+
+pub returns-in_default : goal.returns-in_default
+returns-in_default c = search of_plain
