@@ -1,11 +1,10 @@
 -- The answer and the buffer, by what became of the type.
 -- Assumes nothing.
-use mathlib.Core.Path.{◌≡◌, refl, sym}
+use mathlib.Core.Path.{◌≡◌, refl}
 use mathlib.Core.List.{List, [], ◌∷◌, ◌++◌}
 use Prim.Native.Nat.{ℕ, suc, ◌+◌, ◌*◌, ◌/◌, ◌≤◌, ◌<◌}
 use native.Mathlib.Omega.{arith}
 use lib.ListN.{length, take, length-append}
-use lib.Seq.{length-take-le}
 use borrow.Author.Tests.{lt-ltb, le-ltb}
 use Rattle.type_layers.specs.Layers.{Layer, layers, spelled}
 use Rattle.type_layers.specs.Answer.{Answer, given, refused}
@@ -23,9 +22,6 @@ whole (k ∷ n ∷ []) = refl
 whole (k ∷ n ∷ m ∷ ws) =
     let e : suc (suc (suc (length ws))) / 3 * 3 ≡ suc (suc (suc (length ws / 3 * 3))) = omega arith in
     rw (e, ← whole ws)
-
-pub whole_length : (ws : List ℕ) → length ws / 3 * 3 ≡ length (take (length ws / 3 * 3) ws)
-whole_length ws = sym (length-take-le (length ws / 3 * 3) ws (omega arith))
 
 -- a refusal is told, and the buffer stays
 pub stays : (o : Answer (List Layer)) (n p : ℕ) (b : List ℕ) → o ≡ refused n p → (refused n p ≡ told o) × (b ≡ over o b)

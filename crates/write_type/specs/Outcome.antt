@@ -1,11 +1,11 @@
 -- From the type that was made to the answer and the words that are lent.
-use Rattle.std.specs.Prelude.{◌≡◌, cond, List, ℕ, ltb, length}
+use Rattle.std.specs.Prelude.{◌≡◌, cond, List, ℕ, ltb, length, Result}
 use Rattle.type_numbers.specs.Limit as limit
 use Rattle.type_numbers.specs.Refusal as refusal
 use Rattle.type_layers.specs.Layers.{Layer, spelled}
-use Rattle.type_layers.specs.Answer.{Answer, given, nothing, refused, of_checked}
+use Rattle.type_layers.specs.Answer.{Answer, given, nothing, refused, of_result}
 use Rattle.write_words.specs.Written.{written}
-use Rattle.type_layers.specs.declared.answers.Checked.{Checked}
+use Rattle.type_layers.specs.declared.answers.Refused.{Refused}
 
 -- "14 output too short for this result; 15 result over 16 layers", in the order "15, 14".
 unfoldable pub delivered : ℕ → Answer (List Layer) → Answer (List Layer)
@@ -36,5 +36,5 @@ abbrev pub buffer_in : List ℕ → Answer (List Layer) → List ℕ
 buffer_in out o = over (delivered (length out) o) out
 
 -- What is handed out for a type that was made, or a refusal: what the code says, and the output, before and then.
-abbrev pub Writes : Answer (List Layer) → Checked → List ℕ → List ℕ → Type 0
-Writes a r out out' = (of_checked r ≡ answer_in out a) × (out' ≡ buffer_in out a)
+abbrev pub Writes : Answer (List Layer) → Result ℕ Refused → List ℕ → List ℕ → Type 0
+Writes a r out out' = (of_result r ≡ answer_in out a) × (out' ≡ buffer_in out a)

@@ -3,7 +3,7 @@ ghost use Rattle.type_layers.specs.Layers.{layers, spelled};
 ghost use Rattle.type_layers.specs.Answer.{given};
 ghost use Rattle.write_type.specs.Outcome.{Writes};
 
-use type_layers::Checked;
+use type_layers::Refused;
 use type_numbers::{Limit, Refusal};
 use write_words::write_words;
 
@@ -14,8 +14,8 @@ fn whole_layers(ws: &[u64]) -> &[u64]
     &ws[..ws.len() / 3 * 3]
 }
 
-// Writes a type that is made of some layers in front and the rest, where it may be written.
-pub fn write_type(out: &mut [u64], front: &[u64], rest: &[u64]) -> Checked
+// Writes a type that is made of some layers in front and the rest, where it may be written; how many words it has.
+pub fn write_type(out: &mut [u64], front: &[u64], rest: &[u64]) -> Result<u64, Refused>
     ensures { Writes (given (layers front.now ++ layers rest.now))
         result out.old out.new }
 {
@@ -24,18 +24,12 @@ pub fn write_type(out: &mut [u64], front: &[u64], rest: &[u64]) -> Checked
     let start = first.len();
     let n = start + after.len();
     if n > Limit::TYPE_WORDS {
-        return Checked::Refused {
-            number: Refusal::TOO_MANY_LAYERS,
-            place: 0,
-        };
+        return Err(Refusal::TooManyLayers.into());
     }
     if out.len() < n {
-        return Checked::Refused {
-            number: Refusal::OUTPUT_TOO_SHORT,
-            place: 0,
-        };
+        return Err(Refusal::OutputTooShort.into());
     }
     write_words(out, first);
     write_words(&mut out[start..], after);
-    Checked::Good(n as u64)
+    Ok(n as u64)
 }
