@@ -1,14 +1,14 @@
 -- A run of words has no step, or a first step and the steps of the words from the fifth on.
 -- Assumes nothing.
-use mathlib.Core.Path.{◌≡◌, refl, sym, ap, ◌∙◌}
+use mathlib.Core.Path.{◌≡◌, refl, ap}
 use mathlib.Core.Bool.{Bool, true, false, cond, ◌&&◌}
 use mathlib.Core.List.{List, [], ◌∷◌, ◌++◌}
-use Prim.Native.Nat.{ℕ, suc, ◌+◌, ◌*◌, ◌-◌, ◌%◌, ◌≤◌, ◌<◌}
+use Prim.Native.Nat.{ℕ, ◌+◌, ◌*◌, ◌%◌, ◌≤◌, ◌<◌}
 use native.Mathlib.Omega.{arith}
 use lib.Dec.{leb}
-use lib.ListN.{length, take, drop, set, length-append, length-take, length-drop}
-use lib.Seq.{sets-eq, take_at}
-use borrow.Author.Tests.{leb-true, le-leb, lt-leb}
+use lib.ListN.{length, take, drop, length-append, length-take, length-drop}
+use lib.Seq.{take_at}
+use borrow.Author.Tests.{leb-true, le-leb}
 use Rattle.plan_steps.specs.Steps.{Step, step, steps, step_words, good_step, good_steps}
 use Rattle.plan_steps.specs.AsCoded.{put_step, step_at}
 
@@ -58,24 +58,6 @@ module _ (b : List ℕ) (at k h m n : ℕ) where
   pub put-in : at + 4 ≤ length b → put_step (step k h m n) at b ≡ take at b ++ (k ∷ h ∷ m ∷ n ∷ []) ++ drop (at + 4) b
   unfolding put_step step_words
   put-in e = rw (le-leb (at + 4) (length b) e)
-
-  pub put-out : length b < at + 4 → b ≡ put_step (step k h m n) at b
-  unfolding put_step
-  put-out e = rw (lt-leb (at + 4) (length b) e)
-
-  pub put-short : length b < 4 → b ≡ put_step (step k h m n) at b
-  put-short e = put-out (omega arith)
-
-  pub put-past : 4 ≤ length b → length b - 4 < at → b ≡ put_step (step k h m n) at b
-  put-past e f = put-out (omega arith)
-
-  pub put-sets : 4 ≤ length b → at ≤ length b - 4 →
-      set (set (set (set b at k) (at + 1) h) (at + 2) m) (at + 3) n ≡ put_step (step k h m n) at b
-  put-sets e f =
-      let i : at + 1 ≡ suc at = omega arith in
-      let j : at + 2 ≡ suc (suc at) = omega arith in
-      let l : at + 3 ≡ suc (suc (suc at)) = omega arith in
-      rw (i, j, l) (sets-eq (k ∷ h ∷ m ∷ n ∷ []) b at (omega arith)) ∙ sym (put-in (omega arith))
 
 pub put-length : (s : Step) (at : ℕ) (b : List ℕ) → length (put_step s at b) ≡ length b
 unfolding put_step step_words

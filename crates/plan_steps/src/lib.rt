@@ -2,7 +2,9 @@
 #![tactic(auto)]
 
 mod good_steps;
-mod write_step;
+mod step;
+mod writing;
 
 pub use good_steps::check_steps;
-pub use write_step::four;
+pub use step::Step;
+pub use writing::write_step;
