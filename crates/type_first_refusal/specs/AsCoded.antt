@@ -1,7 +1,7 @@
--- No rule, but how the code tells a bad word: by its number, and by 3 where there is none.
-use Rattle.std.specs.Prelude.{ℕ}
+-- No rule, but how the code tells a place that a check stumbles over: an option.
+use Rattle.std.specs.Prelude.{Option, Some, None, ℕ}
 use Rattle.type_checks.specs.Check.{Place, at, nowhere}
 
-abbrev pub word_or3 : Place → ℕ
-word_or3 (at w) = w
-word_or3 nowhere = 3
+abbrev pub of_place : Option ℕ → Place
+of_place (Some p) = at p
+of_place None = nowhere
