@@ -1,88 +1,83 @@
 -- Bytes read as words.
 -- Assumes nothing.
-use mathlib.Core.Path.{◌≡◌, refl, sym, ◌∙◌}
-use mathlib.Core.List.{List, [], ◌∷◌, ◌++◌}
+use mathlib.Core.Path.{◌≡◌, refl, ◌∙◌}
+use mathlib.Core.List.{List, [], ◌∷◌, ◌++◌, append_assoc}
 use Prim.Native.Nat.{ℕ, zero, suc, ◌+◌, ◌*◌, ◌/◌, ◌≤◌, ◌<◌}
 use native.Mathlib.Omega.{arith}
 use native.Mathlib.Numerals.{add-one}
-use lib.ListN.{length, take, drop, get_or, set, replicate}
-use lib.Seq.{drop-cons, drop-drop, take_at}
+use lib.ListN.{length, take, drop, get_or, set, replicate, length-drop}
+use lib.Seq.{drop-cons, drop-drop, take_at, set_at, length-take-le}
+use borrow.Author.Tests.{lt-ltb}
+use Rattle.std.specs.Int.{w64, from_le_bytes}
+use Rattle.std.specs.Simd.{first_chunks}
 use Rattle.write_words.specs.Written.{written}
-use Rattle.write_words.proofs.Writing.{Begun, begin, go_on, all, too_short, fits}
+use Rattle.write_words.proofs.Writing.{fits}
 use Rattle.sheet_words.specs.Little.{little, words_of, whole_words}
 
-module _ (bs : List ℕ) where
-  byte : (n i j : ℕ) → i < length bs → j ≡ i + 1 → take (suc n) (drop i bs) ≡ get_or bs i 0 ∷ take n (drop j bs)
-  byte n i j h e = rw (drop-cons bs i 0 h, e, add-one)
-
-  pub eight-bytes : (i : ℕ) → i + 8 ≤ length bs →
-      get_or bs i 0
-      ∷ get_or bs (i + 1) 0
-      ∷ get_or bs (i + 2) 0
-      ∷ get_or bs (i + 3) 0
-      ∷ get_or bs (i + 4) 0
-      ∷ get_or bs (i + 5) 0
-      ∷ get_or bs (i + 6) 0
-      ∷ get_or bs (i + 7) 0
-      ∷ []
-      ≡ take 8 (drop i bs)
-  eight-bytes i h =
-      sym
-      (rw
-      (byte 7 i (i + 1) (omega arith) refl, byte 6 (i + 1) (i + 2) (omega arith) (omega arith), byte 5 (i + 2) (i + 3) (omega arith) (omega arith), byte 4 (i + 3) (i + 4) (omega arith) (omega arith), byte 3 (i + 4) (i + 5) (omega arith) (omega arith), byte 2 (i + 5) (i + 6) (omega arith) (omega arith), byte 1 (i + 6) (i + 7) (omega arith) (omega arith), byte 0 (i + 7) (i + 8) (omega arith) (omega arith)))
+-- the word of eight bytes
+little-eight : (b : List ℕ) → length b ≡ 8 → from_le_bytes w64 b ≡ little b
+unfolding little
+little-eight [] e = absurd (omega (arith, e))
+little-eight (_ ∷ []) e = absurd (omega (arith, e))
+little-eight (_ ∷ _ ∷ []) e = absurd (omega (arith, e))
+little-eight (_ ∷ _ ∷ _ ∷ []) e = absurd (omega (arith, e))
+little-eight (_ ∷ _ ∷ _ ∷ _ ∷ []) e = absurd (omega (arith, e))
+little-eight (_ ∷ _ ∷ _ ∷ _ ∷ _ ∷ []) e = absurd (omega (arith, e))
+little-eight (_ ∷ _ ∷ _ ∷ _ ∷ _ ∷ _ ∷ []) e = absurd (omega (arith, e))
+little-eight (_ ∷ _ ∷ _ ∷ _ ∷ _ ∷ _ ∷ _ ∷ []) e = absurd (omega (arith, e))
+little-eight (a ∷ b ∷ c ∷ d ∷ e ∷ f ∷ g ∷ h ∷ []) p = omega arith
+little-eight (_ ∷ _ ∷ _ ∷ _ ∷ _ ∷ _ ∷ _ ∷ _ ∷ _ ∷ bs) e = absurd (omega (arith, e))
 
 pub length-words : (n : ℕ) (bs : List ℕ) → length (words_of n bs) ≡ n
 unfolding words_of
 length-words zero bs = refl
 length-words (suc n) bs = rw (length-words n (drop 8 bs))
 
--- word i of so many
-pub word-is : (n i : ℕ) (bs : List ℕ) → i < n → get_or (words_of n bs) i 0 ≡ little (take 8 (drop (i * 8) bs))
-unfolding words_of
-word-is zero i bs h = absurd (omega arith)
-word-is (suc n) zero bs h = refl
-word-is (suc n) (suc i) bs h =
+-- chunk i of so many
+chunk_at : (n i : ℕ) (bs : List ℕ) → i < n → (d : List ℕ) → get_or (first_chunks 8 n bs) i d ≡ take 8 (drop (i * 8) bs)
+chunk_at zero i bs h d = absurd (omega arith)
+chunk_at (suc n) zero bs h d = refl
+chunk_at (suc n) (suc i) bs h d =
     let e : 8 + i * 8 ≡ suc i * 8 = omega arith in
-    word-is n i (drop 8 bs) (omega arith) ∙ rw (drop-drop, e)
+    chunk_at n i (drop 8 bs) (omega arith) d ∙ rw (drop-drop, e)
 
--- the word of eight bytes that were read one by one
-pub word-here : (bs : List ℕ) (i : ℕ) → i + 8 ≤ length bs → (r : ℕ) →
-    r
-    ≡ little
-    (get_or bs i 0
-    ∷ get_or bs (i + 1) 0
-    ∷ get_or bs (i + 2) 0
-    ∷ get_or bs (i + 3) 0
-    ∷ get_or bs (i + 4) 0
-    ∷ get_or bs (i + 5) 0
-    ∷ get_or bs (i + 6) 0
-    ∷ get_or bs (i + 7) 0
-    ∷ []) →
-    r ≡ little (take 8 (drop i bs))
-word-here bs i h r e = e ∙ rw (eight-bytes bs i h)
+-- one word more
+words-more : (i : ℕ) (bs : List ℕ) → words_of (suc i) bs ≡ words_of i bs ++ little (take 8 (drop (i * 8) bs)) ∷ []
+unfolding words_of
+words-more zero bs = refl
+words-more (suc i) bs =
+    let e : 8 + i * 8 ≡ suc i * 8 = omega arith in
+    rw (words-more i (drop 8 bs), drop-drop, e)
 
 -- the words of bytes, written over zeros
 abbrev zeros : List ℕ
 zeros = replicate 1569 0
 
-module _ (bs : List ℕ) where
-  pub too_many : 1569 < length bs / 8 → zeros ≡ written (whole_words bs) zeros
-  too_many h = too_short (whole_words bs) zeros (rw (length-words (length bs / 8) bs) h)
+-- before the word at i
+abbrev pub so_far : List ℕ → ℕ → List ℕ → Type 0
+so_far bs i l = l ≡ words_of i bs ++ drop i zeros
 
-  pub decode-begin : length bs / 8 ≤ 1569 → Begun (whole_words bs) zeros zeros 0
-  decode-begin h = begin (whole_words bs) zeros (rw (length-words (length bs / 8) bs) h)
+pub begun : (bs : List ℕ) → so_far bs 0 zeros
+unfolding words_of
+begun bs = refl
 
-  module _ (l : List ℕ) (i : ℕ) (p : Begun (whole_words bs) zeros l i) where
-    pub decode-more : i < length bs / 8 → (r : ℕ) → r ≡ little (take 8 (drop (i * 8) bs)) → Begun (whole_words bs) zeros (set l i r) (i + 1)
-    decode-more h r e =
-        let here : r ≡ get_or (whole_words bs) i 0 = e ∙ sym (word-is (length bs / 8) i bs h) in
-        rw here (go_on (whole_words bs) zeros l i p (rw (length-words (length bs / 8) bs) h))
+pub word_more : (bs l : List ℕ) (i n : ℕ) → so_far bs i l → i < n → n ≡ length bs / 8 → n ≤ 1569 → (cs : List (List ℕ)) → cs ≡ first_chunks 8 (length bs / 8) bs →
+    (d : List ℕ) (r : ℕ) → r ≡ from_le_bytes w64 (get_or cs i d) → so_far bs (i + 1) (set l i r)
+word_more bs l i n p h e m cs q d r f =
+    let k : i < length bs / 8 = omega arith in
+    let chunk : length (take 8 (drop (i * 8) bs)) ≡ 8 = length-take-le 8 (drop (i * 8) bs) (simp length-drop (omega arith)) in
+    let here : r ≡ little (take 8 (drop (i * 8) bs)) = f ∙ rw (q, chunk_at (length bs / 8) i bs k d) (little-eight (take 8 (drop (i * 8) bs)) chunk) in
+    rw (add-one, words-more i bs, p, drop-cons zeros i 0 (omega arith), set_at (words_of i bs) (get_or zeros i 0) (drop (suc i) zeros) r i (length-words i bs), here, append_assoc)
 
-    pub decoded : length bs / 8 ≤ i → l ≡ written (whole_words bs) zeros
-    decoded h = all (whole_words bs) zeros l i p (rw (length-words (length bs / 8) bs) h)
+pub decoded : (bs l : List ℕ) (i n : ℕ) → so_far bs i l → i ≤ n → n ≤ i → n ≡ length bs / 8 → n ≤ 1569 → l ≡ written (whole_words bs) zeros
+decoded bs l i n p h k e m =
+    let j : i ≡ length bs / 8 = omega arith in
+    let room : length (whole_words bs) ≤ length zeros = rw (length-words (length bs / 8) bs) (omega arith) in
+    p ∙ rw (j, fits (whole_words bs) zeros room, length-words (length bs / 8) bs)
 
-    pub inside : length l ≡ 1569
-    inside = p.same
+pub too_many : (bs : List ℕ) → 1569 < length bs / 8 → zeros ≡ written (whole_words bs) zeros
+unfolding written
+too_many bs h = let k : 1569 < length (whole_words bs) = rw (length-words (length bs / 8) bs) h in rw (lt-ltb 1569 (length (whole_words bs)) k)
 
 -- the words of bytes that are not too many
 pub words_back : (bs z : List ℕ) → length bs ≤ 12552 → z ≡ written (whole_words bs) (replicate 1569 0) → take (length bs / 8) z ≡ whole_words bs
