@@ -1,4 +1,4 @@
-// A kind of layer: its number.
+// A kind of layer: its number. A constant and no enum: C lends layers as words, and `outer` and the rules answer for any word.
 #[derive(Clone, Copy)]
 pub struct Kind(pub u64);
 

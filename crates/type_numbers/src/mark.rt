@@ -1,5 +1,5 @@
 // A step's mark. Of an Element: whether the array is endless. Of an Autodeslice: by view, by pointer, or the length. Of a
-// Member: whether it has an offset.
+// Member: whether it has an offset. Constants and no enum, since C lends steps as words.
 #[derive(Clone, Copy)]
 pub struct Mark(pub u64);
 

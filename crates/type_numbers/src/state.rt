@@ -1,4 +1,4 @@
-// The state of a record.
+// The state of a record. A constant and no enum: C lends records, and one with any other number is out of order.
 #[derive(Clone, Copy)]
 pub struct State(pub u64);
 

@@ -1,4 +1,4 @@
-// A step's kind, its first word; its handle, mark and number follow.
+// A step's kind, its first word; its handle, mark and number follow. A constant and no enum, since C lends steps as words.
 #[derive(Clone, Copy)]
 pub struct StepKind(pub u64);
 
