@@ -1,6 +1,5 @@
 -- What the proofs of several functions use.
 pub mod Theorems
-pub mod Reading
 pub mod OneLook
 pub mod Decisions
 pub mod OnePass

@@ -1,7 +1,7 @@
 -- One look at the outer kinds, and then one comparison at most, find a coercion.
 -- Assumes nothing.
 use mathlib.Core.Path.{◌≡◌, refl, sym, subst}
-use mathlib.Core.Bool.{Bool, true, false, cond, ◌&&◌}
+use mathlib.Core.Bool.{Bool, true, false, cond}
 use mathlib.Core.List.{List}
 use Prim.Native.Nat.{ℕ}
 use lib.Dec.{eqb}
@@ -12,7 +12,7 @@ use Rattle.type_layers.specs.Layers.{Layer, outer, inside}
 use Rattle.relation_equals.specs.Equals.{identical, equals}
 use Rattle.relation_coerces.specs.Coerces.{into_slice, into_endless_array, struct_into_view, coerces, address_into_slice_pointer, address_into_endless_array, address_coerces}
 use Rattle.relation_coerces.specs.Coercion.{coercion}
-use Rattle.relation_coerces.specs.AsCoded.{open_to, of_open, same_in_endless_array, found}
+use Rattle.relation_coerces.specs.AsCoded.{of_kinds, same_in_endless_array, found}
 
 -- a fact of one number and of every other is one of each
 split : (P : ℕ → Type 0) (k i : ℕ) → P i → (eqb k i ≡ false → P k) → P k
@@ -36,7 +36,7 @@ module _ (a b : List Layer) where
       (cond (address_into_endless_array k l (outer (inside b))) (equals (inside a) (inside (inside b))) false))
       of-coercion.by_address
       of-coercion.none)
-      ≡ of_open (open_to k l) a b
+      ≡ of_kinds k l a (inside a) (inside b)
 
   -- by whether b holds an EndlessArray
   held : (P : Type 0) → (eqb (outer (inside b)) kind.endless_array ≡ true → P) → (eqb (outer (inside b)) kind.endless_array ≡ false → P) → P

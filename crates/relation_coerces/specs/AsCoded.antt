@@ -1,6 +1,6 @@
 -- No rule, but how the code finds a coercion, and how it asks sub-autoderefs: in one pass, from a type and another to what
 -- both hold. x is the outer layer of the left type, d is what it holds.
-use Rattle.std.specs.Prelude.{Bool, true, false, cond, not, ◌&&◌, ◌||◌, List, [], ◌∷◌, ℕ, suc, ◌+◌, eqb}
+use Rattle.std.specs.Prelude.{◌≡◌, Bool, true, false, cond, not, ◌&&◌, ◌||◌, List, [], ◌∷◌, ℕ, suc, ◌+◌, eqb}
 use Rattle.type_numbers.specs.Kind as kind
 use Rattle.type_numbers.specs.CoercionNumber as of-coercion
 use Rattle.type_layers.specs.Layers.{Layer, outer, inside, is_reference}
@@ -8,8 +8,6 @@ use Rattle.relation_equals.specs.Equals.{same_layer, identical, plain_layer, equ
 use Rattle.relation_coerces.specs.Coerces.{has_length, into_slice, struct_into_view, address_into_slice_pointer}
 use Rattle.relation_coerces.specs.declared.coercion.Coercion.{Coercion}
 use Rattle.relation_coerces.specs.declared.coercion.Coercion.TheVariants as coded
-use Rattle.relation_coerces.specs.declared.coercion.Open.{Open}
-use Rattle.relation_coerces.specs.declared.coercion.Open.TheVariants as open'
 
 -- The number of each of the code's answers.
 abbrev pub of_coercion : Coercion → ℕ
@@ -17,29 +15,27 @@ of_coercion coded.None = of-coercion.none
 of_coercion coded.AsValue = of-coercion.as_value
 of_coercion coded.ByAddress = of-coercion.by_address
 
--- What the outer kinds k and l leave open.
-abbrev pub open_to : ℕ → ℕ → Open
-open_to k l =
-    cond (into_slice k l) (open'.Elements coded.AsValue)
-    (cond (address_into_slice_pointer k l) (open'.Elements coded.ByAddress)
-    (cond ((has_length k || eqb k kind.slice) && eqb l kind.view || eqb k kind.slice_pointer && eqb l kind.pointer) (open'.Endless coded.AsValue)
-    (cond (has_length k && eqb l kind.pointer) (open'.Endless coded.ByAddress)
-    (cond (struct_into_view k l) open'.Struct
-    open'.Closed))))
+abbrev pub Numbers : Coercion → ℕ → Type 0
+Numbers c n = n ≡ of_coercion c
 
 -- Whether c, which the right type holds, is an EndlessArray whose element equals d, the left element.
 unfoldable pub same_in_endless_array : List Layer → List Layer → Bool
 same_in_endless_array d c = eqb (outer c) kind.endless_array && equals d (inside c)
 
--- What comes of it: what is open tells the one comparison that is made.
-abbrev pub of_open : Open → List Layer → List Layer → ℕ
-of_open open'.Closed a b = of-coercion.none
-of_open open'.Struct a b = cond (identical a (inside b)) of-coercion.as_value of-coercion.none
-of_open (open'.Elements c) a b = cond (equals (inside a) (inside b)) (of_coercion c) of-coercion.none
-of_open (open'.Endless c) a b = cond (same_in_endless_array (inside a) (inside b)) (of_coercion c) of-coercion.none
+-- The one comparison that the outer kinds k and l of two types leave open, and what comes of it: of the left type a, what
+-- it holds, d, and what the right one holds, c.
+abbrev pub of_kinds : ℕ → ℕ → List Layer → List Layer → List Layer → ℕ
+of_kinds k l a d c =
+    cond (into_slice k l) (cond (equals d c) of-coercion.as_value of-coercion.none)
+    (cond (address_into_slice_pointer k l) (cond (equals d c) of-coercion.by_address of-coercion.none)
+    (cond ((has_length k || eqb k kind.slice) && eqb l kind.view || eqb k kind.slice_pointer && eqb l kind.pointer)
+    (cond (same_in_endless_array d c) of-coercion.as_value of-coercion.none)
+    (cond (has_length k && eqb l kind.pointer) (cond (same_in_endless_array d c) of-coercion.by_address of-coercion.none)
+    (cond (struct_into_view k l) (cond (identical a c) of-coercion.as_value of-coercion.none)
+    of-coercion.none))))
 
 unfoldable pub found : List Layer → List Layer → ℕ
-found a b = of_open (open_to (outer a) (outer b)) a b
+found a b = of_kinds (outer a) (outer b) a (inside a) (inside b)
 
 -- Whether a type of the outer kind j may equal one of the outer kind l: a View or a Pointer equals only its own kind.
 abbrev pub may_equal : ℕ → ℕ → Bool

@@ -11,35 +11,30 @@ use type_numbers::Kind;
 fn is_array_or_struct(k: u64) -> bool
     ensures { result ≡ rules.is_array_or_struct k }
 {
-    (k == Kind::ARRAY)
-        | (k == Kind::ARRAY_WITH_NAMED_LENGTH)
-        | (k == Kind::SLICE)
-        | (k == Kind::SLICE_POINTER)
-        | (k == Kind::ENDLESS_ARRAY)
-        | (k == Kind::STRUCT)
+    matches!(
+        k,
+        Kind::ARRAY
+            | Kind::ARRAY_WITH_NAMED_LENGTH
+            | Kind::SLICE
+            | Kind::SLICE_POINTER
+            | Kind::ENDLESS_ARRAY
+            | Kind::STRUCT
+    )
 }
 
 // Whether a type autoderefs into another. What a View and a Pointer have in common is what sub-autoderefs asks.
+#[tactic(auto, using(crate::proofs::Dereferences::auto_asked))]
 pub fn can_autoderef_into(a: &[u64], b: &[u64]) -> bool
     ensures { result ≡ rules.autoderefs (layers a.now) (layers b.now) }
 {
-    let k = outer(a);
-    if is_array_or_struct(k) {
-        return equals(a, b) || coerces(a, b).is_as_value();
-    }
-    if k == Kind::VIEW {
-        return equals(a, b) || can_subautoderef_into(a, b);
-    }
-    if k == Kind::POINTER {
-        if equals(a, b) {
-            return true;
+    match outer(a) {
+        k if is_array_or_struct(k) => equals(a, b) || coerces(a, b).is_as_value(),
+        Kind::VIEW => equals(a, b) || can_subautoderef_into(a, b),
+        Kind::POINTER => {
+            equals(a, b) || can_subautoderef_into(a, b) || coerces(inner(a), b).is_by_address()
         }
-        if can_subautoderef_into(a, b) {
-            return true;
-        }
-        return coerces(inner(a), b).is_by_address();
+        _ => false,
     }
-    false
 }
 
 // Whether a type of the outer kind j may equal one of the outer kind l: a View or a Pointer equals only its own kind.
@@ -51,23 +46,19 @@ fn may_equal(j: u64, l: u64) -> bool
 
 // Whether a View or a Pointer sub-autoderefs into another type. Where both are of one outer kind, only what they hold is
 // asked: whatever equals a View or a Pointer, or sub-autoderefs into it, sub-autoderefs into what that holds.
+#[tactic(auto, using(crate::proofs::Dereferences::sub_asked))]
 pub fn can_subautoderef_into(a: &[u64], b: &[u64]) -> bool
     ensures { result ≡ rules.subautoderefs (layers a.now) (layers b.now) }
 {
-    if a.len() < 3 {
-        return false;
+    match a {
+        [k, _, _, d @ ..] if is_reference(*k) => {
+            let l = outer(b);
+            if l == *k {
+                can_subautoderef_into(d, inner(b))
+            } else {
+                (may_equal(outer(d), l) && equals(d, b)) || can_subautoderef_into(d, b)
+            }
+        }
+        _ => false,
     }
-    let k = a[0];
-    if !is_reference(k) {
-        return false;
-    }
-    let d = &a[3..];
-    let l = outer(b);
-    if l == k {
-        return can_subautoderef_into(d, inner(b));
-    }
-    if may_equal(outer(d), l) {
-        return equals(d, b) || can_subautoderef_into(d, b);
-    }
-    can_subautoderef_into(d, b)
 }
