@@ -1,6 +1,5 @@
 -- What the proofs of several functions use.
 pub mod KnownSizes
 pub mod Pointers
-pub mod Apart
 pub mod Single
 pub mod Cases

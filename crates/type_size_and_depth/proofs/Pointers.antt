@@ -16,9 +16,9 @@ use Rattle.type_layers.proofs.Words.{none, more, rest, rest-is}
 use Rattle.type_size_and_depth.specs.Depth.{pointer_depth}
 
 module _ (ws : List ℕ) where
-  pub depth-none : length ws < 3 → 0 ≡ pointer_depth (layers ws)
+  pub depth_none : length ws < 3 → 0 ≡ pointer_depth (layers ws)
   unfolding pointer_depth
-  depth-none h = rw (none ws)
+  depth_none h = rw (none ws)
 
   module _ (h : 3 ≤ length ws) where
     pub deeper : (n : ℕ) → get_or ws 0 0 ≡ kind.pointer → n ≡ pointer_depth (layers (rest ws)) → n + 1 ≡ pointer_depth (layers ws)
@@ -33,6 +33,8 @@ module _ (ws : List ℕ) where
       pub stops : (get_or ws 0 0 ≡ kind.slice_pointer → ⊥) → 0 ≡ pointer_depth (layers ws)
       unfolding pointer_depth
       stops f = rw (more ws, ne_eqb (get_or ws 0 0) kind.pointer e, ne_eqb (get_or ws 0 0) kind.slice_pointer f)
+
+pub ruleset counted = (depth_none, deeper, one, stops)
 
 -- each layer that is counted has three words
 within : (ws : List ℕ) → pointer_depth (layers ws) * 3 ≤ length ws
