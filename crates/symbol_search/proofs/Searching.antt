@@ -3,85 +3,98 @@
 use mathlib.Core.Path.{◌≡◌, refl, ap, ◌∙◌}
 use mathlib.Core.Bool.{Bool, true, false, cond, not, ◌&&◌}
 use mathlib.Core.List.{List, [], ◌∷◌}
-use Prim.Native.Nat.{ℕ, suc, ◌+◌, ◌-◌, ◌≤◌, ◌<◌}
+use Prim.Native.Nat.{ℕ, zero, suc, ◌+◌, ◌-◌, ◌≤◌, ◌<◌}
 use native.Mathlib.Omega.{arith}
-use lib.ListN.{length, get_or}
-use lib.Dec.{eqb}
-use borrow.Author.Tests.{eq-eqb, ne_eqb, lt-ltb, le-ltb, eqb-true}
+use lib.ListN.{length, take, drop, get_or, length-take, length-drop}
+use lib.Seq.{drop-cons}
+use lib.Dec.{eqb, ltb}
+use borrow.Author.Tests.{ltb-true, ltb-false, lt-ltb, le-ltb, eqb-true}
 use Rattle.symbol_columns.specs.Record.{vacant, free}
 use Rattle.symbol_columns.specs.AsCoded.{row_at, read_from}
 use Rattle.symbol_columns.specs.declared.symbol.Symbol.{Symbol}
-use Rattle.symbol_columns.proofs.Reading.{from, read_more, read-end, read_all}
-use Rattle.symbol_search.specs.Search.{first_free, slot_for}
+use Rattle.std.proofs.Common.{Option, Some, None}
+use Rattle.std.proofs.lemmas.Slice.Zip.{length-zip}
+use Rattle.std.specs.List.{zip, position_or_len}
+use Rattle.symbol_search.specs.Search.{first_free, slot_for, among}
 use Rattle.symbol_search.specs.AsCoded.{free_in, slot_in}
 
--- a search for a free record that has passed i of them
-abbrev pub FreePassed : List ℕ → ℕ → ℕ → Type 0
-FreePassed ws n i = first_free (read_from ws 0 n) ≡ i + first_free (from ws n i)
+-- more than 128 rows: none is found
+module _ (ws : List ℕ) (n : ℕ) (h : 128 < n) where
+  pub free_many : None ≡ among n (free_in ws n)
+  unfolding free_in
+  free_many = rw (lt-ltb 128 n h, le-ltb n n (omega arith))
 
-abbrev pub SlotPassed : List ℕ → ℕ → ℕ → ℕ → Type 0
-SlotPassed ws n id i = slot_for id (read_from ws 0 n) ≡ i + slot_for id (from ws n i)
+  pub slot_many : (id : ℕ) → None ≡ among n (slot_in ws n id)
+  unfolding slot_in
+  slot_many id = rw (lt-ltb 128 n h, le-ltb n n (omega arith))
 
-pub free-many : (ws : List ℕ) (n : ℕ) → 128 < n → n ≡ free_in ws n
-unfolding free_in
-free-many ws n h = rw (lt-ltb 128 n h)
+-- a search through records is one through the words of their columns
+stops : (b : Bool) (m : ℕ) → cond b 0 (suc m) ≡ cond (not b) (1 + m) 0
+stops true m = refl
+stops false m = omega arith
 
-pub slot-many : (ws : List ℕ) (n id : ℕ) → 128 < n → n ≡ slot_in ws n id
-unfolding slot_in
-slot-many ws n id h = rw (lt-ltb 128 n h)
+free_by_words : (ws : List ℕ) (i j k : ℕ) → j ≡ i + 384 → j + k ≤ length ws → first_free (read_from ws i k) ≡ position_or_len (λ s. eqb s 0) (take k (drop j ws))
+unfolding first_free read_from row_at
+free_by_words ws i j zero e h = refl
+free_by_words ws i j (suc k) e h =
+    let here : j < length ws = omega arith in
+    rw (drop-cons ws j 0 here, ← e)
+    (ap (λ (m : ℕ). cond (eqb (get_or ws j 0) 0) 0 (suc m)) (free_by_words ws (suc i) (suc j) k (omega arith) (omega arith))
+    ∙ stops (eqb (get_or ws j 0) 0) (position_or_len (λ s. eqb s 0) (take k (drop (suc j) ws))))
 
-free-few : (ws : List ℕ) (n r : ℕ) → n ≤ 128 → r ≡ first_free (read_from ws 0 n) → r ≡ free_in ws n
-unfolding free_in
-free-few ws n r h e = e ∙ rw (le-ltb 128 n h)
+-- whether an id and a state are those of a taken record that has the id
+abbrev pub wanted : ℕ → ℕ × ℕ → Bool
+wanted id w = eqb w.0 id && not (eqb w.1 0)
 
-slot-few : (ws : List ℕ) (n id r : ℕ) → n ≤ 128 → r ≡ slot_for id (read_from ws 0 n) → r ≡ slot_in ws n id
-unfolding slot_in
-slot-few ws n id r h e = e ∙ rw (le-ltb 128 n h)
+slot_by_words : (ws : List ℕ) (id i j k : ℕ) → j ≡ i + 384 → j + k ≤ length ws →
+    slot_for id (read_from ws i k) ≡ position_or_len (wanted id) (zip (take k (drop i ws)) (take k (drop j ws)))
+unfolding slot_for read_from row_at
+slot_by_words ws id i j zero e h = refl
+slot_by_words ws id i j (suc k) e h =
+    let here : j < length ws = omega arith in
+    let there : i < length ws = omega arith in
+    rw (drop-cons ws j 0 here, drop-cons ws i 0 there, ← e)
+    (ap (λ (m : ℕ). cond (wanted id (get_or ws i 0, get_or ws j 0)) 0 (suc m)) (slot_by_words ws id (suc i) (suc j) k (omega arith) (omega arith))
+    ∙ stops (wanted id (get_or ws i 0, get_or ws j 0)) (position_or_len (wanted id) (zip (take k (drop (suc i) ws)) (take k (drop (suc j) ws)))))
 
-pub free-start : (ws : List ℕ) (n : ℕ) → FreePassed ws n 0
-free-start ws n = omega (arith, ap first_free (read_all ws n))
+-- at most 128 rows: what is found in the words is found
+abbrev pub found_in : {B : Type 0} → (B → Bool) → List B → Option ℕ
+found_in test xs = cond (ltb (position_or_len test xs) (length xs)) (Some (position_or_len test xs)) None
 
-pub slot-start : (ws : List ℕ) (n id : ℕ) → SlotPassed ws n id 0
-slot-start ws n id = omega (arith, ap (slot_for id) (read_all ws n))
+module _ (ws : List ℕ) (n : ℕ) (few : n ≤ 128) (full : length ws ≡ 768) where
+  -- the states of the n rows
+  abbrev pub states : List ℕ
+  states = take (384 + n - 384) (drop 384 ws)
 
-module _ (ws : List ℕ) (n i : ℕ) (few : n ≤ 128) where
-  module _ (p : FreePassed ws n i) where
-    pub free-found : i < n → get_or ws (i + 384) 0 ≡ 0 → i ≡ free_in ws n
-    unfolding first_free row_at
-    free-found h z =
-        let e : first_free (from ws n i) ≡ 0 = rw (read_more ws n i h, eq-eqb (get_or ws (i + 384) 0) 0 z) in
-        free-few ws n i few (omega (arith, e, p))
+  states-are : states ≡ take n (drop 384 ws)
+  states-are = ap (λ (m : ℕ). take m (drop 384 ws)) (omega arith)
 
-    pub free_on : i < n → (get_or ws (i + 384) 0 ≡ 0 → ⊥) → FreePassed ws n (i + 1)
-    unfolding first_free row_at
-    free_on h z =
-        let e : first_free (from ws n i) ≡ suc (first_free (from ws n (i + 1))) = rw (read_more ws n i h, ne_eqb (get_or ws (i + 384) 0) 0 z) in
-        omega (arith, e, p)
+  pub free_found : (r : Option ℕ) → r ≡ found_in (λ s. eqb s 0) states → r ≡ among n (free_in ws n)
+  unfolding free_in
+  free_found r e =
+      let m : length (take n (drop 384 ws)) ≡ n = simp (length-take, length-drop) (omega arith) in
+      rw (le-ltb 128 n few, free_by_words ws 0 384 n refl (omega arith)) (rw (states-are, m) at e)
 
-    pub free-over : n ≤ i → i ≡ free_in ws n
-    unfolding first_free
-    free-over h =
-        let e : first_free (from ws n i) ≡ 0 = rw (read-end ws n i h) in
-        free-few ws n i few (omega (arith, e, p))
+  pub slot_found : (id : ℕ) (r : Option ℕ) → r ≡ found_in (wanted id) (zip (take n ws) states) → r ≡ among n (slot_in ws n id)
+  unfolding slot_in
+  slot_found id r e =
+      let m : length (zip (take n ws) (take n (drop 384 ws))) ≡ n = simp (length-zip, length-take, length-drop) (omega arith) in
+      rw (le-ltb 128 n few, slot_by_words ws id 0 384 n refl (omega arith)) (rw (states-are, m) at e)
 
-  module _ (id : ℕ) (p : SlotPassed ws n id i) where
-    pub slot-found : i < n → (eqb (get_or ws i 0) id && not (eqb (get_or ws (i + 384) 0) 0)) ≡ true → i ≡ slot_in ws n id
-    unfolding slot_for row_at
-    slot-found h z =
-        let e : slot_for id (from ws n i) ≡ 0 = rw (read_more ws n i h, z) in
-        slot-few ws n id i few (omega (arith, e, p))
+-- what was found is that number, and where none was found it is not below n
+pub some_among : (n k i : ℕ) → Some i ≡ among n k → (i ≡ k) × (k < n)
+some_among n k i = by_test (ltb k n) refl
+  where
+    by_test : (t : Bool) → ltb k n ≡ t → Some i ≡ cond t (Some k) None → (i ≡ k) × (k < n)
+    by_test true b e = (cc, ltb-true k n b)
+    by_test false b e = cc
 
-    pub slot-on : i < n → (eqb (get_or ws i 0) id && not (eqb (get_or ws (i + 384) 0) 0)) ≡ false → SlotPassed ws n id (i + 1)
-    unfolding slot_for row_at
-    slot-on h z =
-        let e : slot_for id (from ws n i) ≡ suc (slot_for id (from ws n (i + 1))) = rw (read_more ws n i h, z) in
-        omega (arith, e, p)
-
-    pub slot-over : n ≤ i → i ≡ slot_in ws n id
-    unfolding slot_for
-    slot-over h =
-        let e : slot_for id (from ws n i) ≡ 0 = rw (read-end ws n i h) in
-        slot-few ws n id i few (omega (arith, e, p))
+pub none_among : (n k : ℕ) → None ≡ among n k → n ≤ k
+none_among n k = by_test (ltb k n) refl
+  where
+    by_test : (t : Bool) → ltb k n ≡ t → None ≡ cond t (Some k) None → n ≤ k
+    by_test true b e = cc
+    by_test false b e = ltb-false k n b
 
 -- the searches through the columns of at most 128 rows
 pub slot_is : (ws : List ℕ) (n id k : ℕ) → n ≤ 128 → k ≡ slot_in ws n id → k ≡ slot_for id (read_from ws 0 n)

@@ -9,11 +9,11 @@ use Rattle.symbol_search.proofs.search.slot_of.Reads as slot_of
 use Rattle.symbol_search.proofs.search.slot_with.Kinds as slot-with-kinds
 use Rattle.symbol_search.proofs.search.slot_with.Reads as slot-with
 
-pub first-free-single : Single 1 first-free-kinds.ps first-free-kinds.r first-free.Post
+pub first-free-single : Single 3 first-free-kinds.ps first-free-kinds.r first-free.Post
 first-free-single κs a x y s t p q = p ∙ sym q
 
-pub slot-of-single : Single 1 slot-of-kinds.ps slot-of-kinds.r slot_of.Post
+pub slot-of-single : Single 3 slot-of-kinds.ps slot-of-kinds.r slot_of.Post
 slot-of-single κs a x y s t p q = p ∙ sym q
 
-pub slot-with-single : Single 1 slot-with-kinds.ps slot-with-kinds.r slot-with.Post
+pub slot-with-single : Single 3 slot-with-kinds.ps slot-with-kinds.r slot-with.Post
 slot-with-single κs a x y s t p q = p ∙ sym q

@@ -1,5 +1,5 @@
 -- Which record is the first free one, and which has an id.
-use Rattle.std.specs.Prelude.{Bool, cond, not, ◌&&◌, List, [], ◌∷◌, ℕ, suc, eqb}
+use Rattle.std.specs.Prelude.{Bool, cond, not, ◌&&◌, List, [], ◌∷◌, ℕ, suc, eqb, ltb, Option, Some, None}
 use Rattle.symbol_columns.specs.declared.symbol.Symbol.{Symbol}
 use Rattle.symbol_columns.specs.Record.{free}
 
@@ -16,3 +16,7 @@ has id s = eqb s.id id && not (free s)
 unfoldable pub slot_for : ℕ → List Symbol → ℕ
 slot_for id [] = 0
 slot_for id (s ∷ table) = cond (has id s) 0 (suc (slot_for id table))
+
+-- Such a number as the code has it: of n records the k-th, or none.
+abbrev pub among : ℕ → ℕ → Option ℕ
+among n k = cond (ltb k n) (Some k) None

@@ -1,19 +1,12 @@
-use Prim.Native.Nat.{◌-◌}
-use borrow.Author.Rules.{rules}
-use Rattle.symbol_search.proofs.Searching.{free-many, free-start, free-found, free_on, free-over}
+use native.Mathlib.Omega.{arith}
+use lib.Dec.{eqb}
+use Rattle.std.proofs.Common.{rules, tests}
+use Rattle.std.proofs.lemmas.Iterator.{YieldsList-from_slice}
+use Rattle.std.proofs.lemmas.Iterator.Search.{position_from_yields_List}
+use Rattle.symbol_search.proofs.Searching.{free_found}
 use Rattle.symbol_search.proofs.search.first_free.Goals as goal
 
-pub returns-then-n-gt-RECORDS : goal.returns-then-n-gt-RECORDS
-returns-then-n-gt-RECORDS c = search free-many
-
-pub loop-i-init : goal.loop-i-init
-loop-i-init c = search (rules, free-start)
-
-pub returns-then-flat-i-eq-FREE : goal.returns-then-flat-i-eq-FREE
-returns-then-flat-i-eq-FREE c = search free-found
-
-pub loop-i-preserved : goal.loop-i-preserved
-loop-i-preserved c = search (rules, free_on)
-
 pub returns : goal.returns
-returns c = search free-over
+returns c =
+    free_found _ _ c.if-count-gt-RECORDS.false (omega arith) _
+    (position_from_yields_List (λ s. eqb s 0) _ _ c.position.result c.position.ensures.ran (YieldsList-from_slice _ c.iter.ensures.rest) (λ x b q k. search (rules, tests)))

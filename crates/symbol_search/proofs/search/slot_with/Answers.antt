@@ -1,19 +1,12 @@
-use Prim.Native.Nat.{◌-◌}
-use borrow.Author.Rules.{rules}
-use Rattle.symbol_search.proofs.Searching.{slot-many, slot-start, slot-found, slot-on, slot-over}
+use native.Mathlib.Omega.{arith}
+use Rattle.std.proofs.Common.{rules, tests}
+use Rattle.std.proofs.lemmas.Iterator.{YieldsList-from_slice, YieldsList-from_zip}
+use Rattle.std.proofs.lemmas.Iterator.Search.{position_from_yields_List}
+use Rattle.symbol_search.proofs.Searching.{wanted, slot_found}
 use Rattle.symbol_search.proofs.search.slot_with.Goals as goal
 
-pub returns-then-n-gt-RECORDS : goal.returns-then-n-gt-RECORDS
-returns-then-n-gt-RECORDS c = search slot-many
-
-pub loop-i-init : goal.loop-i-init
-loop-i-init c = search (rules, slot-start)
-
-pub returns-then-flat-i : goal.returns-then-flat-i
-returns-then-flat-i c = search slot-found
-
-pub loop-i-preserved : goal.loop-i-preserved
-loop-i-preserved c = search (rules, slot-on)
-
 pub returns : goal.returns
-returns c = search slot-over
+returns c =
+    slot_found _ _ c.if-count-gt-RECORDS.false (omega arith) _ _
+    (position_from_yields_List (wanted c.args.wanted) c.position.new.self _ c.position.result c.position.ensures.ran
+    (YieldsList-from_zip (YieldsList-from_slice _ cc) (YieldsList-from_slice _ c.zip.ensures.second.0)) (λ x b q k. search (rules, tests)))
