@@ -6,7 +6,6 @@ use mathlib.Core.List.{List, ◌∷◌}
 use mathlib.Core.Logic.{◌≢◌}
 use Prim.Native.Nat.{ℕ, zero, suc, ◌+◌, ◌<◌, ◌≤◌}
 use native.Mathlib.Nat.{zero-add, not-suc-le-zero}
-use native.Mathlib.Numerals.{add-one}
 use native.Mathlib.Omega.{arith}
 use lib.Dec.{eqb, ltb}
 use lib.ListN.{length, drop, get_or, set, replicate, length-replicate, length-set, drop_of_length-le}
@@ -17,24 +16,6 @@ use Rattle.symbol_columns.specs.AsCoded.{bit, six_set, put_row, row_at, read_fro
 use Rattle.symbol_columns.specs.declared.symbol.Symbol.{Symbol}
 use Rattle.symbol_columns.proofs.Reading.{length-read}
 use Rattle.symbol_lent.specs.AsCoded.{rows_into, gathered_into, gathered}
-
--- a record more in its columns
-module _ (ws : List ℕ) (table : List Symbol) where
-  pub rows_start : rows_into ws table 0 ≡ ws
-  unfolding rows_into
-  rows_start = refl
-
-  pub rows_next : (k : ℕ) → rows_into ws table (k + 1) ≡ put_row (rows_into ws table k) k (get_or table k vacant)
-  unfolding rows_into
-  rows_next k = ap (rows_into ws table) (add-one k)
-
-  pub gather-many : 128 < length table → ws ≡ gathered_into ws table
-  unfolding gathered_into
-  gather-many h = rw (lt-ltb 128 (length table) h)
-
-  pub gather-few : length table ≤ 128 → rows_into ws table (length table) ≡ gathered_into ws table
-  unfolding gathered_into
-  gather-few h = rw (le-ltb 128 (length table) h)
 
 -- what stands in the rows is what was put there
 bit-back : (b : Bool) → eqb (bit b) 1 ≡ b

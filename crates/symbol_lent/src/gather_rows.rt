@@ -6,16 +6,14 @@ use type_numbers::Limit;
 
 // Writes a table into its columns: ids, authorities, places, states, layer counts, marks, 128 words each. A table of more
 // records has none, and nothing is written.
+#[tactic(auto, unfolding(crate::specs::AsCoded::gathered_into, crate::specs::AsCoded::rows_into))]
 pub fn gather(table: &[Symbol], flat: &mut Columns)
     ensures { flat.new ≡ gathered_into flat.old table.now }
 {
     if table.len() > Limit::RECORDS {
         return;
     }
-    let mut i = 0;
-    while i < table.len() {
-        let s = table[i];
+    for (i, &s) in table.iter().enumerate() {
         put_row(flat, i, s);
-        i += 1;
     }
 }

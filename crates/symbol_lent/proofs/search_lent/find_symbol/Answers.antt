@@ -1,13 +1,11 @@
-use mathlib.Core.Path.{sym, ◌∙◌}
-use native.Mathlib.Omega.{arith}
-use Rattle.symbol_lent.proofs.Finding.{found, onward, over}
+use Rattle.std.proofs.Common.{rules, tests}
+use Rattle.std.proofs.lemmas.Iterator.{YieldsList-from_slice}
+use Rattle.std.proofs.lemmas.Iterator.Search.{position_from_yields_List}
+use Rattle.symbol_search.specs.Search.{has}
+use Rattle.symbol_lent.proofs.Finding.{slot_found}
 use Rattle.symbol_lent.proofs.search_lent.find_symbol.Goals as goal
 
-pub returns-then-has_id : goal.returns-then-has_id
-returns-then-has_id c = found _ _ _ c.loop-i-test.true c.loop-i.invariant.1 (sym c.has_id.ensures ∙ c.if-has_id.true)
-
-pub loop-i-preserved : goal.loop-i-preserved
-loop-i-preserved c = (omega arith, onward _ _ _ c.loop-i-test.true c.loop-i.invariant.1 (sym c.has_id.ensures ∙ c.if-has_id.false))
-
 pub returns : goal.returns
-returns c = over _ _ _ c.loop-i-test.false c.loop-i.invariant.1
+returns c =
+    slot_found _ _ _
+    (position_from_yields_List (has c.args.id) _ _ c.position.result c.position.ensures.ran (YieldsList-from_slice c.args.table.now cc) (λ x b q k. search (rules, tests)))
