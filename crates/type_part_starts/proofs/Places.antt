@@ -10,9 +10,7 @@ use lib.ListN.{length, length-drop}
 use borrow.Author.Tests.{ne_eqb, eqb-true}
 use Rattle.type_numbers.specs.Kind as kind
 use Rattle.type_layers.specs.Layers.{Layer, layers, outer, is_array, is_slice, is_reference, holds_inner}
-use Rattle.type_layers.specs.Answer.{Answer, given, nothing, of_checked, is_given}
-use Rattle.type_layers.specs.declared.answers.Checked.{Checked}
-use Rattle.type_layers.specs.declared.answers.Checked.TheVariants.{Good}
+use Rattle.type_layers.specs.Answer.{Answer, given, nothing, is_given}
 use Rattle.type_checks.specs.Check.{nowhere, misplaced, check_of}
 use Rattle.type_checks.proofs.Passing.{counted-by}
 use Rattle.type_checks.proofs.Accepted.{placed-inside, accepted-placed, accepted-count, accepted-inside}
@@ -43,6 +41,8 @@ module _ (ws l : List ℕ) where
   unfolding fully_dereferenced
   dereferenced-short e = rw e (simp length-drop (omega arith))
 
+pub ruleset short = (element-short, pointee-short, viewee-short, dereferenced-short)
+
 -- the Pointers and Views outside are not all the layers
 references-fewer : (p : ℕ) (a : List Layer) → misplaced p a ≡ nowhere → 0 < length a → references a < length a
 unfolding references
@@ -59,9 +59,6 @@ references-fewer p (x ∷ a) e h = by_kind (is_reference x.kind) refl (reference
 
 -- words that pass the checks
 module _ (ws : List ℕ) where
-  pub passes : (c : Checked) (i : ℕ) → of_checked c ≡ check_of ws → c ≡ Good i → is_given (check_of ws) ≡ true
-  passes c i e h = rw (← e, h)
-
   module _ (g : is_given (check_of ws) ≡ true) where
     count : check_of ws ≡ given (length ws / 3)
     count = sym (counted-by ws true (sym g) refl)
@@ -103,3 +100,5 @@ module _ (ws : List ℕ) where
           let n = references-fewer 0 (layers ws) (accepted-placed ws (length ws / 3) count) c.1 in
           let k : length l ≡ length ws - references (layers ws) * 3 = ap length e ∙ length-drop (references (layers ws) * 3) ws in
           rw h (q ∙ measured-some l (references (layers ws) * 3) (omega arith) (omega arith))
+
+pub ruleset places = (at-element, at-pointee, at-viewee, at-dereferenced)

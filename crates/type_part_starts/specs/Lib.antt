@@ -1,2 +1,1 @@
 pub mod PartStarts
-pub mod AsCoded

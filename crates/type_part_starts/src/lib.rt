@@ -3,4 +3,4 @@
 
 mod part_starts;
 
-pub use part_starts::{Part, Start, start_of};
+pub use part_starts::{Part, start_of};
