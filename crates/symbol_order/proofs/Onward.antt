@@ -8,7 +8,8 @@ use Prim.Native.Nat.{ℕ, zero, suc, ◌+◌, ◌-◌, ◌*◌, ◌%◌, ◌≤�
 use native.Mathlib.Nat.{zero-add, not-suc-le-zero}
 use native.Mathlib.Omega.{arith}
 use lib.Dec.{eqb, leb}
-use lib.ListN.{length, take, drop, get_or, set, length-set}
+use lib.ListN.{length, take, drop, get_or, set, length-set, length-take}
+use Rattle.std.proofs.lemmas.List.{get_or-take}
 use lib.Seq.{drop-drop, get_or-set_same, get_or-set_other}
 use borrow.Author.Tests.{lt-leb, eq-eqb, ne_eqb, eqb-true, eqb-false}
 use Rattle.type_layers.specs.Answer.{is_given}
@@ -234,17 +235,17 @@ module _ (ws w : List ℕ) (n : ℕ) where
       unfolding row_at
       goes_on t = rw t at turns
 
-pub other-store : (ws w : List ℕ) (n : ℕ) → (length w ≡ n * 48 → ⊥) → false ≡ in_order (read_from ws 0 n) w
+pub other_store : (ws w : List ℕ) (n : ℕ) → (length w ≡ n * 48 → ⊥) → false ≡ in_order (read_from ws 0 n) w
 unfolding in_order
-other-store ws w n h = last (leb (length (read_from ws 0 n)) 128 && known_states (read_from ws 0 n) && taken_first (read_from ws 0 n) && not (repeats (taken (read_from ws 0 n))) && all_pass (read_from ws 0 n) w) _ (rw (length-read ws 0 n) (ne_eqb (length w) (n * 48) h))
+other_store ws w n h = last (leb (length (read_from ws 0 n)) 128 && known_states (read_from ws 0 n) && taken_first (read_from ws 0 n) && not (repeats (taken (read_from ws 0 n))) && all_pass (read_from ws 0 n) w) _ (rw (length-read ws 0 n) (ne_eqb (length w) (n * 48) h))
   where
     last : (a b : Bool) → b ≡ false → false ≡ (a && b)
     last true b e = sym e
     last false b e = refl
 
 -- the ids of the rows passed, noted
-pub noted-start : (noted : List Bool) (ws : List ℕ) → Noted noted ws 0
-noted-start noted ws = record { before = λ i h. absurd (not-suc-le-zero h) }
+pub noted_start : (noted : List Bool) (ws : List ℕ) → Noted noted ws 0
+noted_start noted ws = record { before = λ i h. absurd (not-suc-le-zero h) }
 
 pub still_full : (noted : List Bool) (i : ℕ) (b : Bool) → length noted ≡ 512 → length (set noted i b) ≡ 512
 still_full noted i b e = simp length-set e
@@ -286,26 +287,18 @@ not_noted noted ws k id old new =
     sym (none_has id ws 0 k (λ j h q.
     true≢false (sym (old.before j h) ∙ ap (λ (l : ℕ). get_or noted (l % 512) false) (ap (λ (l : ℕ). get_or ws l 0) (sym (zero-add j)) ∙ q) ∙ new)))
 
--- an id among the rows
-module _ (ws : List ℕ) (n i id : ℕ) (hit v : Bool) (e : (hit || has_id id (from ws n i)) ≡ v) where
-  pub id-more : i < n → (hit || eqb (get_or ws i 0) id || has_id id (from ws n (i + 1))) ≡ v
-  unfolding has_id row_at
-  id-more h = or-chain hit _ _ ∙ (rw (read_more ws n i h) at e)
-    where
-      or-chain : (a b c : Bool) → (a || b || c) ≡ (a || (b || c))
-      or-chain true b c = refl
-      or-chain false b c = refl
+-- an id among the rows, with one row more
+pub id_none : (ws : List ℕ) (id : ℕ) → false ≡ has_id id (read_from ws 0 0)
+unfolding has_id read_from
+id_none ws id = refl
 
-  pub id-end : n ≤ i → hit ≡ v
-  unfolding has_id
-  id-end h = or-none hit ∙ (rw (read-end ws n i h) at e)
-    where
-      or-none : (a : Bool) → a ≡ (a || false)
-      or-none true = refl
-      or-none false = refl
-
-pub id-start : (ws : List ℕ) (n id : ℕ) → (false || has_id id (from ws n 0)) ≡ has_id id (read_from ws 0 n)
-id-start ws n id = ap (has_id id) (read_all ws n)
+pub id_more : (ws : List ℕ) (k id i : ℕ) → i < length (take k ws) →
+    (has_id id (read_from ws 0 i) || eqb (get_or (take k ws) i 0) id) ≡ has_id id (read_from ws 0 (i + 1))
+unfolding row_at
+id_more ws k id i h =
+    let within : i < k = omega (arith, simp length-take at h) in
+    ap (λ (x : ℕ). has_id id (read_from ws 0 i) || eqb x id) (get_or-take k ws i 0 within ∙ ap (λ (j : ℕ). get_or ws j 0) (sym (zero-add i)))
+    ∙ sym (ap (has_id id) (read-last ws 0 i) ∙ one_more id (read_from ws 0 i) (row_at ws (0 + i)))
 
 -- a typed record's words
 pub words-pass : (state layers : ℕ) (ws stored : List ℕ) (r : Bool) → state ≡ 1 → stored ≡ stored_words layers ws → r ≡ is_given (check_of stored) →

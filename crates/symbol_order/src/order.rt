@@ -1,94 +1,89 @@
 ghost use Rattle.std.specs.Prelude.{◌≡◌, ◌≤◌, ◌<◌, get_or};
 ghost use Rattle.type_numbers.specs.Limit as limit;
 ghost use Rattle.symbol_columns.specs.AsCoded.{row_at, read_from};
+ghost use Rattle.symbol_columns.specs.Table.{records};
 ghost use Rattle.symbol_order.specs.Order as order;
 ghost use Rattle.symbol_order.specs.AsCoded.{Noted, stands};
 
-use symbol_columns::{Column, Columns, stored_words};
+use symbol_columns::{Column, Columns, Table, stored_words};
 use type_checks::is_type;
 use type_numbers::{Limit, State};
 
 // Whether one of the first k records has an id. No early exit, so that the ids are compared side by side.
-fn has_id(flat: &Columns, k: usize, id: u64) -> bool
+#[tactic(auto, using(crate::proofs::Onward::id_none, crate::proofs::Onward::id_more))]
+fn has_id(columns: &Columns, k: usize, id: u64) -> bool
     requires { k ≤ limit.records }
-    ensures { result ≡ order.has_id id (read_from flat.now 0 k) }
+    ensures { result ≡ order.has_id id (read_from columns.now 0 k) }
 {
     let mut hit = false;
-    let mut i = 0;
-    while i < k {
-        hit = hit | (flat[i] == id);
-        i += 1;
+    for &other in &columns[..k] {
+        hit |= other == id;
     }
     hit
 }
 
 // Whether the id of row k is that of a row before. Their ids are noted, by what is left of them by 512: an id that is
 // not noted is new, and only one that is noted has to be compared.
-fn repeats(flat: &Columns, k: usize, noted: &[bool; 512]) -> bool
-    requires { (k < limit.records) × Noted noted.now flat.now k }
-    ensures { result ≡ order.has_id (get_or flat.now k 0) (read_from flat.now 0 k) }
+#[tactic(auto, using(crate::proofs::Onward::not_noted))]
+fn repeats(columns: &Columns, k: usize, noted: &[bool; 512]) -> bool
+    requires within { k < limit.records }
+    requires before { Noted noted.now columns.now k }
+    ensures { result ≡ order.has_id (get_or columns.now k 0) (read_from columns.now 0 k) }
 {
-    let id = flat[k];
-    if noted[(id % 512) as usize] {
-        has_id(flat, k, id)
-    } else {
-        false
-    }
+    let id = columns[k];
+    noted[(id % 512) as usize] && has_id(columns, k, id)
 }
 
 // Whether the words of a record pass the checks 1 to 3, if it is typed.
+#[tactic(auto, unfolding(crate::specs::Order::passes))]
 fn passes(state: u64, layers: u64, words: &[u64]) -> bool
     ensures { result ≡ order.passes state layers words.now }
 {
-    if state != State::TYPED {
-        return true;
-    }
-    is_type(stored_words(words, layers))
+    state != State::TYPED || is_type(stored_words(words, layers))
 }
 
 // Whether the record of row k can stand after those before it, one of which is free or none.
-fn stands_after(flat: &Columns, k: usize, noted: &[bool; 512], free: bool, words: &[u64]) -> bool
-    requires { (k < limit.records) × Noted noted.now flat.now k }
-    ensures { result ≡ stands free (read_from flat.now 0 k) (row_at flat.now k) words.now }
+#[tactic(auto, unfolding(crate::specs::AsCoded::stands, symbol_columns::specs::AsCoded::row_at))]
+fn stands_after(columns: &Columns, k: usize, noted: &[bool; 512], free: bool, words: &[u64]) -> bool
+    requires within { k < limit.records }
+    requires before { Noted noted.now columns.now k }
+    ensures { result ≡ stands free (read_from columns.now 0 k) (row_at columns.now k) words.now }
 {
-    let state = flat[k + Column::STATE];
-    if state == State::FREE {
-        return true;
+    let state = columns[k + Column::STATE];
+    match state {
+        State::FREE => true,
+        State::TYPED | State::POISONED => {
+            !free
+                && !repeats(columns, k, noted)
+                && passes(state, columns[k + Column::LAYERS], words)
+        }
+        _ => false,
     }
-    if free {
-        return false;
-    }
-    if state > State::POISONED {
-        return false;
-    }
-    if repeats(flat, k, noted) {
-        return false;
-    }
-    passes(state, flat[k + Column::LAYERS], words)
 }
 
-// Whether the table of the first n rows is in order with its store. One pass, which ends at the first record that cannot
-// stand after those before it.
-pub fn in_order(flat: &Columns, n: usize, store: &[u64]) -> bool
-    ensures { result ≡ order.in_order (read_from flat.now 0 n) store.now }
+// Whether a table is in order with its store. One pass, which ends at the first record that cannot stand after those
+// before it.
+#[tactic(auto, using(crate::proofs::Onward::too_many, crate::proofs::Onward::other_store, crate::proofs::Onward::start))]
+pub fn in_order(table: &Table) -> bool
+    ensures { result ≡ order.in_order (records table.now) table.now.store.now }
 {
-    if n > Limit::RECORDS {
-        return false;
-    }
-    if store.len() != n * Limit::SLOT_WORDS {
+    let Table {
+        columns,
+        count,
+        store,
+    } = *table;
+    if count > Limit::RECORDS || store.len() != count * Limit::SLOT_WORDS {
         return false;
     }
     let mut noted = [false; 512];
     let mut free = false;
-    let mut k = 0;
-    while k < n {
+    for k in 0..count {
         let at = k * Limit::SLOT_WORDS;
-        if !stands_after(flat, k, &noted, free, &store[at..at + Limit::SLOT_WORDS]) {
+        if !stands_after(columns, k, &noted, free, &store[at..at + Limit::SLOT_WORDS]) {
             return false;
         }
-        free = flat[k + Column::STATE] == State::FREE;
-        noted[(flat[k] % 512) as usize] = true;
-        k += 1;
+        free = columns[k + Column::STATE] == State::FREE;
+        noted[(columns[k] % 512) as usize] = true;
     }
     true
 }
