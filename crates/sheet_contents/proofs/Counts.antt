@@ -3,19 +3,17 @@
 use mathlib.Core.Path.{◌≡◌, refl, sym, ◌∙◌}
 use mathlib.Core.Bool.{Bool, true, false, cond, ◌&&◌}
 use mathlib.Core.List.{List, [], ◌∷◌}
-use Prim.Native.Nat.{ℕ, zero, suc, ◌+◌, ◌*◌, ◌^◌, ◌≤◌, ◌<◌}
-use native.Mathlib.Nat.{zero-add, add-zero, add_assoc}
+use Prim.Native.Nat.{ℕ, zero, suc, ◌+◌, ◌*◌, ◌≤◌, ◌<◌}
+use native.Mathlib.Nat.{add-zero, add_assoc}
 use native.Mathlib.Omega.{arith}
 use native.Mathlib.Numerals.{add-one}
 use lib.Dec.{leb}
 use lib.ListN.{length, take, drop, get_or, drop_of_length-le}
 use lib.Seq.{drop-cons}
 use borrow.Author.Tests.{leb-true}
+use Rattle.std.specs.Prelude.{Some, None}
 use Rattle.type_layers.proofs.Decide.{both}
-use Rattle.sheet_contents.specs.Contents.{up_to, good_counts, total}
-
-abbrev pub measured : List ℕ → ℕ
-measured cs = cond (good_counts cs) (total cs) 0
+use Rattle.sheet_contents.specs.Contents.{up_to, good_counts, total, layers_of}
 
 -- a good count is at most its limit, and not 0
 module _ (most n : ℕ) (e : up_to most n ≡ true) where
@@ -27,43 +25,29 @@ module _ (most n : ℕ) (e : up_to most n ≡ true) where
 
 -- what the loop knows before the count at i
 pub record Summed (cs : List ℕ) (sum i : ℕ) : Type 0 where
-  pub within : i ≤ length cs
   pub few : sum ≤ 16 * i
-  pub rest : cond (good_counts (drop i cs)) (sum + total (drop i cs)) 0 ≡ measured cs
-
-module _ (cs : List ℕ) where
-  pub none_yet : Summed cs 0 0
-  none_yet = record { within = omega arith; few = omega arith; rest = rw zero-add }
+  pub rest : cond (good_counts (drop i cs)) (Some (sum + total (drop i cs))) None ≡ layers_of cs
 
 module _ (cs : List ℕ) (sum i : ℕ) (p : Summed cs sum i) where
   module _ (h : i < length cs) (t : Bool) (e : t ≡ up_to 16 (get_or cs i 0)) where
-    open-rest : cond (up_to 16 (get_or cs i 0) && good_counts (drop (suc i) cs)) (sum + (get_or cs i 0 + total (drop (suc i) cs))) 0 ≡ measured cs
+    open-rest : cond (up_to 16 (get_or cs i 0) && good_counts (drop (suc i) cs)) (Some (sum + (get_or cs i 0 + total (drop (suc i) cs)))) None ≡ layers_of cs
     unfolding good_counts total
     open-rest = rw (drop-cons cs i 0 h) at p.rest
 
-    pub bad-count : t ≡ false → 0 ≡ measured cs
+    pub bad-count : t ≡ false → None ≡ layers_of cs
     bad-count f = rw (sym e ∙ f) at open-rest
-
-    pub room : length cs ≤ 32 → t ≡ true → sum + get_or cs i 0 < 2 ^ 64
-    room k f =
-        let small : get_or cs i 0 ≤ 16 = at_most 16 (get_or cs i 0) (sym e ∙ f) in
-        omega (arith, p.few, small)
 
     pub good-count : t ≡ true → Summed cs (sum + get_or cs i 0) (i + 1)
     good-count f =
         let small : get_or cs i 0 ≤ 16 = at_most 16 (get_or cs i 0) (sym e ∙ f) in
         record {
-          within = omega arith;
           few = omega (arith, p.few, small);
           rest = rw (add-one, add_assoc) (rw (sym e ∙ f) at open-rest);
         }
 
-  pub summed : length cs ≤ i → sum ≡ measured cs
+  pub summed : length cs ≤ i → Some sum ≡ layers_of cs
   unfolding good_counts total
   summed h = rw (drop_of_length-le cs h, add-zero) at p.rest
-
-  pub few-layers : length cs ≤ 32 → sum ≤ 512
-  few-layers h = omega (arith, p.within, p.few)
 
 -- good counts are none of them 0
 pub total-positive : (cs : List ℕ) → good_counts cs ≡ true → length cs ≤ total cs

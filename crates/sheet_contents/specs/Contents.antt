@@ -1,5 +1,5 @@
 -- "Sheets (added)": what the words of a sheet hold.
-use Rattle.std.specs.Prelude.{Bool, true, cond, ◌&&◌, List, [], ◌∷◌, ℕ, ◌+◌, ◌*◌, eqb, leb, length, take, drop, get_or}
+use Rattle.std.specs.Prelude.{Bool, true, cond, ◌&&◌, List, [], ◌∷◌, Option, Some, None, ℕ, ◌+◌, ◌*◌, eqb, leb, length, take, drop, get_or}
 use Rattle.type_numbers.specs.Limit as limit
 
 -- From 1 to a limit.
@@ -22,6 +22,10 @@ unfoldable pub total : List ℕ → ℕ
 total [] = 0
 total (c ∷ cs) = c + total cs
 
+-- The layers of all types together, where every count is good.
+abbrev pub layers_of : List ℕ → Option ℕ
+layers_of cs = cond (good_counts cs) (Some (total cs)) None
+
 -- "then the bodies. Any other length or count: 16."
 unfoldable pub is_sheet : List ℕ → Bool
 is_sheet ws =
@@ -29,9 +33,9 @@ is_sheet ws =
     && good_counts (layer_counts ws)
     && eqb (length ws) (1 + count ws + 3 * total (layer_counts ws))
 
--- How many types a sheet has; of other words 0.
-abbrev pub types_in : List ℕ → ℕ
-types_in ws = cond (is_sheet ws) (count ws) 0
+-- How many types a sheet has; of other words none.
+abbrev pub types_in : List ℕ → Option ℕ
+types_in ws = cond (is_sheet ws) (Some (count ws)) None
 
 -- The bodies: each type's words stand behind those of the type before it.
 unfoldable pub bodies : List ℕ → List ℕ → List (List ℕ)
