@@ -8,7 +8,7 @@ use type_numbers::{Kind, Refusal};
 use type_size_and_depth::depth;
 
 // How a plan is settled: the line that applies, and of the last line what it comes to.
-#[derive(Clone, Copy)]
+#[derive(Clone, Copy, Debug, PartialEq, Eq)]
 pub enum Settling {
     // (i) The current type, without a step.
     Identical,
@@ -26,29 +26,24 @@ pub enum Settling {
     Addressed,
     // (vii) The current type fully dereferenced, under as many Pointers as the address depth.
     Dereferenced,
-    // (vii) A refusal's number.
-    Refused(u64),
 }
 
 // The last line, (vii).
-fn settle_otherwise(c: &[u64], n: u64) -> Settling
+#[tactic(auto, unfolding(crate::specs::Settling::settle_otherwise))]
+fn settle_otherwise(c: &[u64], n: u64) -> Result<Settling, Refusal>
     ensures { rules.Otherwise result (layers c.now) n }
 {
-    let p = depth(c);
-    if n > p {
-        if n - p >= 2 {
-            return Settling::Refused(Refusal::ADDRESS_OF_ADDRESS);
-        }
-        return Settling::Addressed;
+    match n.saturating_sub(depth(c)) {
+        0 if outer(c) == Kind::SLICE_POINTER => Err(Refusal::SlicePointerUnsettled),
+        0 => Ok(Settling::Dereferenced),
+        1 => Ok(Settling::Addressed),
+        _ => Err(Refusal::AddressOfAddress),
     }
-    if outer(c) == Kind::SLICE_POINTER {
-        return Settling::Refused(Refusal::SLICE_POINTER_UNSETTLED);
-    }
-    Settling::Dereferenced
 }
 
 // Settles the current type c to the target t at the address depth n, by the first line that applies.
-pub fn settle(c: &[u64], t: &[u64], n: u64) -> Settling
+#[tactic(auto, using(crate::proofs::Decided::answered), unfolding(crate::specs::Settling::line_of, crate::specs::Settling::settle, crate::specs::Settling::settle_by))]
+pub fn settle(c: &[u64], t: &[u64], n: u64) -> Result<Settling, Refusal>
     ensures { rules.Settles result (layers c.now) (layers t.now) n }
 {
     let plainly = (n == 0) & (depth(t) == 0);
@@ -56,28 +51,28 @@ pub fn settle(c: &[u64], t: &[u64], n: u64) -> Settling
     let same = identical(c, t);
     // (i)
     if plainly & same {
-        return Settling::Identical;
+        return Ok(Settling::Identical);
     }
     // (ii)
     if plainly & (k == Kind::VIEW) & identical(inner(c), t) {
-        return Settling::Viewed;
+        return Ok(Settling::Viewed);
     }
     let coercion = coerces(c, t);
     // (iii)
     if plainly & coercion.is_as_value() {
-        return Settling::Coerced;
+        return Ok(Settling::Coerced);
     }
     // (iv)
     if (n == 1) & (k == Kind::SLICE_POINTER) & same {
-        return Settling::SlicePointer;
+        return Ok(Settling::SlicePointer);
     }
     // (v)
     if (n > 0) & (outer(t) == Kind::POINTER) & identical(inner(t), c) {
-        return Settling::PointedTo;
+        return Ok(Settling::PointedTo);
     }
     // (vi)
     if (n > 0) & coercion.is_by_address() {
-        return Settling::AddressCoerced;
+        return Ok(Settling::AddressCoerced);
     }
     // (vii)
     settle_otherwise(c, n)
