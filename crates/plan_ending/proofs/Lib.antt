@@ -1,3 +1,2 @@
--- What the proofs of several functions use.
-pub mod Numbers
+-- What follows from the contracts.
 pub mod Single

@@ -6,27 +6,19 @@ use Rattle.plan_settling.specs.declared.settling.Settling.{Settling}
 use Rattle.plan_settling.specs.declared.settling.Settling.TheVariants as settling
 use Rattle.plan_ending.specs.declared.ending.Ending.{Ending}
 
--- "p-n Autoderefs"
-abbrev pub unwound : ℕ → ℕ → ℕ
-unwound p n = p - n
-
-abbrev pub given : ℕ → ℕ → ℕ → Bool → Bool → Ending
-given extra kind lead address coerced =
-    record { refused = false; number = 0; extra = extra; kind = kind; lead = lead; address = address; coerced = coerced }
-
-abbrev pub refused : ℕ → Ending
-refused number = record { refused = true; number = number; extra = 0; kind = 0; lead = 0; address = false; coerced = false }
+abbrev pub ending : ℕ → ℕ → ℕ → Bool → Bool → Ending
+ending extra kind lead address coerced = record { extra = extra; kind = kind; lead = lead; address = address; coerced = coerced }
 
 abbrev pub ending_of : Settling → ℕ → ℕ → Ending
-ending_of settling.Identical p n = given 0 of-step.autoderef 0 false false
-ending_of settling.Viewed p n = given 1 of-step.autoview 0 false false
-ending_of settling.Coerced p n = given 0 of-step.autoderef 0 false true
-ending_of settling.SlicePointer p n = given 0 of-step.autoderef 0 false false
-ending_of settling.PointedTo p n = given 0 of-step.autoderef 1 true false
-ending_of settling.AddressCoerced p n = given 0 of-step.autoderef 1 true true
-ending_of settling.Addressed p n = given 0 of-step.autoderef 1 true false
-ending_of settling.Dereferenced p n = given (unwound p n) of-step.autoderef n false false
-ending_of (settling.Refused k) p n = refused k
+ending_of settling.Identical p n = ending 0 of-step.autoderef 0 false false
+ending_of settling.Viewed p n = ending 1 of-step.autoview 0 false false
+ending_of settling.Coerced p n = ending 0 of-step.autoderef 0 false true
+ending_of settling.SlicePointer p n = ending 0 of-step.autoderef 0 false false
+ending_of settling.PointedTo p n = ending 0 of-step.autoderef 1 true false
+ending_of settling.AddressCoerced p n = ending 0 of-step.autoderef 1 true true
+ending_of settling.Addressed p n = ending 0 of-step.autoderef 1 true false
+-- "p-n Autoderefs"
+ending_of settling.Dereferenced p n = ending (p - n) of-step.autoderef n false false
 
 -- The words of the reported type after its Pointers, of the current type's and the target's.
 abbrev pub body_of : Settling → List ℕ → List ℕ → List ℕ
@@ -38,4 +30,3 @@ body_of settling.PointedTo c t = c
 body_of settling.AddressCoerced c t = c
 body_of settling.Addressed c t = c
 body_of settling.Dereferenced c t = fully_dereferenced c
-body_of (settling.Refused k) c t = c
