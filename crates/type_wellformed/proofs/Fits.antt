@@ -1,16 +1,15 @@
 -- Well formed, by the outer kind and by what is inside.
 -- Assumes nothing.
-use mathlib.Core.Path.{◌≡◌, refl, sym, ◌∙◌, ap, subst}
-use mathlib.Core.Bool.{Bool, true, false, not, ◌&&◌, ◌||◌, or-false, and-true, and-false, true≢false}
+use mathlib.Core.Path.{◌≡◌, refl, sym, ◌∙◌, subst}
+use mathlib.Core.Bool.{Bool, true, false, not, ◌&&◌, ◌||◌, or-false, true≢false}
 use mathlib.Core.List.{List}
 use Prim.Native.Nat.{ℕ, ◌≤◌, ◌<◌}
 use lib.Dec.{eqb}
 use lib.ListN.{length, get_or}
-use borrow.Author.Tests.{eqb-true, ne_eqb, not-true, not-false}
+use borrow.Author.Tests.{eqb-true, ne_eqb}
 use Rattle.type_numbers.specs.Kind as kind
 use Rattle.type_layers.specs.Layers.{layers, outer, inside, is_array, is_slice, is_reference, holds_inner}
-use Rattle.type_layers.proofs.Words.{none, more, rest, outer-more}
-use Rattle.type_layers.proofs.Decide.{neither}
+use Rattle.type_layers.proofs.Words.{none, more, rest}
 use Rattle.type_wellformed.specs.WellFormed.{inner, element, well_formed}
 
 -- what holds of each kind that a test lists holds of the kind that passed the test
@@ -31,22 +30,16 @@ module _ (P : ℕ → Type 0) (k : ℕ) where
   pub references : is_reference k ≡ true → P 23 → P 24 → P k
   references t a b = or _ 24 t b (λ t. one 23 t a)
 
--- whether a type is an Inner, an Element, a Type: by its outer kind, where what is inside is an Element (e), an Inner (i)
+-- whether a type is an Inner, a Type: by its outer kind, where what is inside is an Element (e), an Inner (i)
 abbrev as_inner : ℕ → Bool → Bool → Bool
 as_inner k e i = (not (holds_inner k) && not (eqb k kind.void)) || (is_array k && e) || (eqb k kind.pointer && i)
-
-abbrev as_element : ℕ → Bool → Bool → Bool
-as_element k e i = as_inner k e i && not (eqb k kind.endless_array)
 
 abbrev as_type : ℕ → Bool → Bool → Bool
 as_type k e i = as_inner k e i || eqb k kind.void || (is_slice k && e) || (eqb k kind.view && i)
 
--- the kinds that `is_wellformed_inner` and `can_be_element` refuse
+-- the kinds that `can_be_inner` refuses
 abbrev pub no_inner : ℕ → Bool
 no_inner k = eqb k kind.void || eqb k kind.slice || eqb k kind.slice_pointer || eqb k kind.view
-
-abbrev pub no_element : ℕ → Bool
-no_element k = no_inner k || eqb k kind.endless_array
 
 either : (a b : Bool) {A : Type 0} → (a || b) ≡ true → (a ≡ true → A) → (b ≡ true → A) → A
 either true b t f g = f refl
@@ -63,11 +56,6 @@ module _ (k : ℕ) (e i : Bool) where
   no_inner_lem t =
       let P : ℕ → Type 0 = λ (k : ℕ). as_inner k e i ≡ false in
       or P k _ 24 t refl (λ t. or P k _ 17 t refl (λ t. or P k _ 16 t refl (λ t. one P k 0 t refl)))
-
-  no-element : no_element k ≡ true → as_element k e i ≡ false
-  no-element t =
-      or (λ (k : ℕ). as_element k e i ≡ false) k _ 18 t (and-false (as_inner 18 e i))
-      (λ t. ap (λ (b : Bool). b && not (eqb k kind.endless_array)) (no_inner_lem t))
 
   array-type : (is_array k || is_slice k) ≡ true → as_type k e i ≡ e
   array-type t =
@@ -105,10 +93,6 @@ module _ (a : List ℕ) where
   unfolding well_formed inner outer
   formed-none h = rw (none a)
 
-  pub element-none : length a < 3 → false ≡ element (layers a)
-  unfolding element inner
-  element-none h = rw (none a)
-
   pub inner-none : length a < 3 → false ≡ inner (layers a)
   unfolding inner
   inner-none h = rw (none a)
@@ -117,10 +101,6 @@ module _ (a : List ℕ) where
     inner-is : inner (layers a) ≡ as_inner (get_or a 0 0) (element (layers (rest a))) (inner (layers (rest a)))
     unfolding inner element
     inner-is = rw (more a)
-
-    element-is : element (layers a) ≡ as_element (get_or a 0 0) (element (layers (rest a))) (inner (layers (rest a)))
-    unfolding inner element outer
-    element-is = rw (more a)
 
     type-is : well_formed (layers a) ≡ as_type (get_or a 0 0) (element (layers (rest a))) (inner (layers (rest a)))
     unfolding well_formed inner element outer inside
@@ -133,13 +113,6 @@ module _ (a : List ℕ) where
 
       pub type-reference : f ≡ is_reference (get_or a 0 0) → f ≡ true → r ≡ inner (layers (rest a)) → r ≡ well_formed (layers a)
       type-reference p t e = rw type-is (e ∙ sym (reference-type (get_or a 0 0) _ _ (sym p ∙ t)))
-
-      pub element-held : f ≡ not (no_element (get_or a 0 0)) → f ≡ true → r ≡ inner (layers a) → r ≡ element (layers a)
-      unfolding element
-      element-held p t e =
-          let k = get_or a 0 0 in
-          let n = (neither (no_inner k) (eqb k 18) (not-true _ (sym p ∙ t))).1 in
-          rw (← outer-more a h, n, and-true) e
 
       pub inner-array : f ≡ is_array (get_or a 0 0) → f ≡ true → r ≡ element (layers (rest a)) → r ≡ inner (layers a)
       inner-array p t e = rw inner-is (e ∙ sym (array-inner (get_or a 0 0) _ _ (sym p ∙ t)))
@@ -159,11 +132,12 @@ module _ (a : List ℕ) where
         j ≡ is_reference (get_or a 0 0) → j ≡ false → true ≡ well_formed (layers a)
     type-leaf f g j p q t u v = rw type-is (sym (leaf_type (is_array (get_or a 0 0)) (is_slice (get_or a 0 0)) (eqb (get_or a 0 0) 23) (eqb (get_or a 0 0) 24) (eqb (get_or a 0 0) 0) (element (layers (rest a))) (inner (layers (rest a))) (rw (p, q) at t) (sym u ∙ v)))
 
-    pub element-not : (f : Bool) → f ≡ not (no_element (get_or a 0 0)) → f ≡ false → false ≡ element (layers a)
-    element-not f p t = rw element-is (sym (no-element (get_or a 0 0) _ _ (not-false _ (sym p ∙ t))))
-
     pub inner-pointer : (r : Bool) → get_or a 0 0 ≡ kind.pointer → r ≡ inner (layers (rest a)) → r ≡ inner (layers a)
     inner-pointer r t e = rw inner-is (e ∙ sym (pointer-inner (get_or a 0 0) _ _ t))
 
     pub inner-not : no_inner (get_or a 0 0) ≡ true → false ≡ inner (layers a)
     inner-not t = rw inner-is (sym (no_inner_lem (get_or a 0 0) _ _ t))
+
+pub ruleset types = (formed-none, type-array, type-reference, type-leaf)
+
+pub ruleset inners = (inner-none, inner-array, inner-pointer, inner-not, inner-leaf)

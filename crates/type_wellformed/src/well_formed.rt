@@ -5,79 +5,60 @@ ghost use Rattle.type_layers.specs.Answer.{of_verdict};
 ghost use Rattle.type_wellformed.specs.WellFormed as formed;
 
 use type_first_refusal::check_type;
-use type_layers::{Checked, Verdict, is_array, is_reference, is_slice};
+use type_layers::{Refused, is_array, is_reference, is_slice, outer};
 use type_numbers::Kind;
 
-// Whether an array may hold a type with this outer kind.
-fn can_be_element(k: u64) -> bool
+// Whether a type with this outer kind may be an Inner.
+fn can_be_inner(k: u64) -> bool
     ensures { result
-        ≡ not (eqb k kind.void || eqb k kind.slice || eqb k kind.slice_pointer || eqb k kind.view || eqb k kind.endless_array) }
+        ≡ not (eqb k kind.void || eqb k kind.slice || eqb k kind.slice_pointer || eqb k kind.view) }
 {
-    !((k == Kind::VOID)
-        | (k == Kind::SLICE)
-        | (k == Kind::SLICE_POINTER)
-        | (k == Kind::VIEW)
-        | (k == Kind::ENDLESS_ARRAY))
+    !matches!(
+        k,
+        Kind::VOID | Kind::SLICE | Kind::SLICE_POINTER | Kind::VIEW
+    )
 }
 
 // Whether a type is well formed.
 #[cycle(is_wellformed_is_wellformed_element_is_wellformed_inner)]
+#[tactic(auto, using(crate::proofs::Fits::types))]
 pub fn is_wellformed(a: &[u64]) -> bool
     ensures { result ≡ formed.well_formed (layers a.now) }
 {
-    if a.len() < 3 {
-        return false;
+    match a {
+        [k, _, _, inside @ ..] if is_array(*k) | is_slice(*k) => is_wellformed_element(inside),
+        [k, _, _, inside @ ..] if is_reference(*k) => is_wellformed_inner(inside),
+        [_, _, _, ..] => true,
+        _ => false,
     }
-    let k = a[0];
-    if is_array(k) | is_slice(k) {
-        return is_wellformed_element(&a[3..]);
-    }
-    if is_reference(k) {
-        return is_wellformed_inner(&a[3..]);
-    }
-    true
 }
 
 #[cycle(is_wellformed_is_wellformed_element_is_wellformed_inner)]
+#[tactic(auto, unfolding(crate::specs::WellFormed::element))]
 fn is_wellformed_element(a: &[u64]) -> bool
     ensures { result ≡ formed.element (layers a.now) }
 {
-    if a.len() < 3 {
-        return false;
-    }
-    if can_be_element(a[0]) {
-        is_wellformed_inner(a)
-    } else {
-        false
-    }
+    outer(a) != Kind::ENDLESS_ARRAY && is_wellformed_inner(a)
 }
 
 #[cycle(is_wellformed_is_wellformed_element_is_wellformed_inner)]
+#[tactic(auto, using(crate::proofs::Fits::inners))]
 fn is_wellformed_inner(a: &[u64]) -> bool
     ensures { result ≡ formed.inner (layers a.now) }
 {
-    if a.len() < 3 {
-        return false;
+    match a {
+        [k, _, _, inside @ ..] if is_array(*k) => is_wellformed_element(inside),
+        [Kind::POINTER, _, _, inside @ ..] => is_wellformed_inner(inside),
+        [k, _, _, ..] => can_be_inner(*k) && is_wellformed(a),
+        _ => false,
     }
-    let k = a[0];
-    if is_array(k) {
-        return is_wellformed_element(&a[3..]);
-    }
-    if k == Kind::POINTER {
-        return is_wellformed_inner(&a[3..]);
-    }
-    if (k == Kind::VOID) | (k == Kind::SLICE) | (k == Kind::SLICE_POINTER) | (k == Kind::VIEW) {
-        return false;
-    }
-    is_wellformed(a)
 }
 
 // Whether any words are a well-formed type.
-pub fn wellformed(a: &[u64]) -> Verdict
+#[tactic(auto, unfolding(crate::specs::WellFormed::well_formed_answer))]
+pub fn wellformed(a: &[u64]) -> Result<bool, Refused>
     ensures { of_verdict result ≡ formed.well_formed_answer a.now }
 {
-    match check_type(a) {
-        Checked::Refused { number, place } => Verdict::Refused { number, place },
-        Checked::Good(_) => Verdict::of(is_wellformed(a)),
-    }
+    check_type(a)?;
+    Ok(is_wellformed(a))
 }
