@@ -1,4 +1,4 @@
-ghost use Rattle.std.specs.Prelude.{◌≡◌, ◌≤◌, length};
+ghost use Rattle.std.specs.Prelude.{◌≡◌};
 ghost use Rattle.type_layers.specs.Layers.{layers};
 ghost use Rattle.type_layers.specs.AsCoded.{head};
 ghost use Rattle.relation_declared.specs.Declared as rules;
@@ -10,15 +10,17 @@ use type_layers::{holds_inner, inner, is_slice, outer};
 use type_numbers::Kind;
 
 // The same outer kind that holds an inner type, with the same length or name.
-fn same_holder(a: &[u64], b: &[u64]) -> bool
-    requires { (3 ≤ length a.now) × (3 ≤ length b.now) }
-    ensures { result ≡ rules.same_holder (head a.now) (head b.now) }
+fn same_holder(x: [u64; 3], y: [u64; 3]) -> bool
+    ensures { result ≡ rules.same_holder (head x) (head y) }
 {
-    let k = a[0];
-    holds_inner(k)
-        & (k == b[0])
-        & ((k != Kind::ARRAY) | (a[2] == b[2]))
-        & ((k != Kind::ARRAY_WITH_NAMED_LENGTH) | (a[1] == b[1]))
+    let [k, n, m] = x;
+    let [l, p, q] = y;
+    k == l
+        && match k {
+            Kind::ARRAY => m == q,
+            Kind::ARRAY_WITH_NAMED_LENGTH => n == p,
+            _ => holds_inner(k),
+        }
 }
 
 fn meets_arraylike(k: u64, l: u64) -> bool
@@ -28,40 +30,34 @@ fn meets_arraylike(k: u64, l: u64) -> bool
 }
 
 // A Struct or a Word against an unresolved type with no name or the same name.
-fn resolves(a: &[u64], b: &[u64]) -> bool
-    requires { (3 ≤ length a.now) × (3 ≤ length b.now) }
-    ensures { result ≡ rules.resolves (head a.now) (head b.now) }
+fn resolves(x: [u64; 3], y: [u64; 3]) -> bool
+    ensures { result ≡ rules.resolves (head x) (head y) }
 {
-    ((a[0] == Kind::STRUCT) | (a[0] == Kind::WORD))
-        & (b[0] == Kind::UNRESOLVED_STRUCT_OR_WORD)
-        & ((b[2] == 0) | (a[1] == b[1]))
+    let [k, n, _] = x;
+    let [l, p, q] = y;
+    matches!(
+        (k, l),
+        (Kind::STRUCT | Kind::WORD, Kind::UNRESOLVED_STRUCT_OR_WORD)
+    ) && (q == 0 || n == p)
 }
 
 // Whether a type is a concretization of another.
+#[tactic(auto, using(crate::proofs::Decisions::concrete))]
 pub fn can_be_concretization_of(a: &[u64], b: &[u64]) -> bool
     ensures { result ≡ rules.concretization (layers a.now) (layers b.now) }
 {
-    if a.len() < 3 {
-        return b.len() < 3;
+    let ([k, n, m, element @ ..], [l, p, q, held @ ..]) = (a, b) else {
+        return identical(a, b);
+    };
+    let x = [*k, *n, *m];
+    let y = [*l, *p, *q];
+    if same_holder(x, y) {
+        can_be_concretization_of(element, held)
+    } else if meets_arraylike(*k, *l) {
+        is_like(element, held)
+    } else if slice_pointer_meets_pointer(*k, *l, outer(held)) {
+        is_like(element, inner(held))
+    } else {
+        resolves(x, y) || identical(a, b)
     }
-    if b.len() < 3 {
-        return false;
-    }
-    let element = &a[3..];
-    let held = &b[3..];
-    if same_holder(a, b) {
-        return can_be_concretization_of(element, held);
-    }
-    let k = a[0];
-    let l = b[0];
-    if meets_arraylike(k, l) {
-        return is_like(element, held);
-    }
-    if slice_pointer_meets_pointer(k, l, outer(held)) {
-        return is_like(element, inner(held));
-    }
-    if resolves(a, b) {
-        return true;
-    }
-    identical(a, b)
 }

@@ -8,23 +8,24 @@ use type_numbers::Kind;
 pub(crate) fn array_meets_arraylike(k: u64, l: u64) -> bool
     ensures { result ≡ rules.array_meets_arraylike k l }
 {
-    ((k == Kind::ARRAY) | (k == Kind::ARRAY_WITH_NAMED_LENGTH) | (k == Kind::ENDLESS_ARRAY))
-        & (l == Kind::ARRAYLIKE)
+    matches!(
+        (k, l),
+        (
+            Kind::ARRAY | Kind::ARRAY_WITH_NAMED_LENGTH | Kind::ENDLESS_ARRAY,
+            Kind::ARRAYLIKE
+        )
+    )
 }
 
 // Whether a type is like another: the same, but that arrays may stand where the other has an Arraylike.
+#[tactic(auto, using(crate::proofs::Decisions::alike))]
 pub fn is_like(a: &[u64], b: &[u64]) -> bool
     ensures { result ≡ rules.like (layers a.now) (layers b.now) }
 {
-    if a.len() < 3 {
-        return b.len() < 3;
-    }
-    if b.len() < 3 {
-        return false;
-    }
-    if array_meets_arraylike(a[0], b[0]) {
-        is_like(&a[3..], &b[3..])
-    } else {
-        identical(a, b)
+    match (a, b) {
+        ([k, _, _, element @ ..], [l, _, _, held @ ..]) if array_meets_arraylike(*k, *l) => {
+            is_like(element, held)
+        }
+        _ => identical(a, b),
     }
 }

@@ -1,24 +1,15 @@
 -- What the code asks of both rules, layer by layer, by what it tested of the outer ones.
 -- Assumes nothing.
-use mathlib.Core.Path.{◌≡◌, refl}
+use mathlib.Core.Path.{◌≡◌}
 use mathlib.Core.Bool.{Bool, true, false, ◌&&◌}
-use mathlib.Core.List.{List, [], ◌∷◌}
+use mathlib.Core.List.{List}
 use Prim.Native.Nat.{ℕ, ◌≤◌, ◌<◌}
-use native.Mathlib.Omega.{arith}
-use lib.Dec.{eqb, ltb}
+use lib.Dec.{eqb}
 use lib.ListN.{length, get_or}
-use borrow.Author.Tests.{le-ltb}
 use Rattle.type_layers.specs.Layers.{layers}
 use Rattle.type_layers.proofs.Words.{rest, none, more}
 use Rattle.relation_equals.specs.Equals.{identical, plain}
 use Rattle.relation_equals.specs.AsCoded.{counted_kind, same}
-
-pub no-layer : (b : List ℕ) → ltb (length b) 3 ≡ identical [] (layers b)
-unfolding identical layers
-no-layer [] = refl
-no-layer (k ∷ []) = refl
-no-layer (k ∷ n ∷ []) = refl
-no-layer (k ∷ n ∷ m ∷ ws) = le-ltb (length (k ∷ n ∷ m ∷ ws)) 3 (omega arith)
 
 module _ (a b : List ℕ) where
   pub same-none : (h : Bool) → length a < 3 → length b < 3 → true ≡ same h (layers a) (layers b)

@@ -1,18 +1,12 @@
-use Rattle.type_layers.proofs.Words.{shorter}
-use Rattle.relation_declared.proofs.Decisions.{like-none, like-less, like-in, like-out}
+use native.Mathlib.Omega.{arith}
+use Rattle.relation_declared.proofs.Decisions.{like_left, like_right, like_looked}
+use Rattle.relation_declared.proofs.like.+is_like.Goals.{in_default-via-then-a-lt3, in_default-via-else-a-lt3+then-this-lt3, in_default-via-in-len3-up-len3-up+else-array_meets_arraylike}
 use Rattle.relation_declared.proofs.like.+is_like.Goals as goal
 
-pub returns-then-a-lt3 : goal.returns-then-a-lt3
-returns-then-a-lt3 t c = search like-none
-
-pub returns-then-b-lt3 : goal.returns-then-b-lt3
-returns-then-b-lt3 t c = search like-less
-
-pub is_like-requires : goal.is_like-requires
-is_like-requires t c = search shorter
-
-pub returns-then-array_meets_arraylike : goal.returns-then-array_meets_arraylike
-returns-then-array_meets_arraylike t c = search like-in
-
-pub returns-else-array_meets_arraylike : goal.returns-else-array_meets_arraylike
-returns-else-array_meets_arraylike t c = search like-out
+pub returns-in_default : goal.returns-in_default
+returns-in_default t c =
+    elim c.in_default.branch [
+      | in_default-via-then-a-lt3 w ↦ grind (arith, like_left)
+      | in_default-via-else-a-lt3+then-this-lt3 w ↦ grind (arith, like_right)
+      | in_default-via-in-len3-up-len3-up+else-array_meets_arraylike w ↦ grind (arith, like_looked)
+    ]
