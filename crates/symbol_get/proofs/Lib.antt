@@ -1,3 +1,3 @@
 -- What the proofs of several functions use.
-pub mod Found
+pub mod Looking
 pub mod Single

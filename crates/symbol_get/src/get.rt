@@ -1,99 +1,79 @@
 ghost use Rattle.std.specs.Prelude.{◌≡◌};
-ghost use Rattle.symbol_columns.specs.AsCoded.{read_from};
+ghost use Rattle.symbol_columns.specs.Table.{records};
 ghost use Rattle.symbol_get.specs.Get as rules;
 ghost use Rattle.symbol_get.specs.AsCoded as as-coded;
 
-use symbol_columns::{Columns, row, slot_words, stored_words};
+use symbol_columns::{Table, row, slot_words, stored_words};
 use symbol_order::in_order;
 use symbol_search::slot_of;
+use type_layers::Refused;
 use type_numbers::{Refusal, State};
 use write_answer::{Answer, accepted, refused};
 
 // What stands under a name: nothing, a type in a slot, or poison with its mark.
-#[derive(Clone, Copy)]
-pub enum Got {
+#[derive(Clone, Copy, Debug, PartialEq, Eq)]
+pub enum Found {
     Absent,
     Typed(usize),
     Poisoned(u64),
-    Refused { number: u64, place: u64 },
 }
 
-fn mark_for(authority: bool, mark: u64) -> u64
-    ensures { result ≡ rules.mark_for authority mark }
+#[tactic(auto, using(crate::proofs::Looking::get_refused, crate::proofs::Looking::get_absent, crate::proofs::Looking::get_typed, crate::proofs::Looking::get_marked, crate::proofs::Looking::get_plain))]
+fn look(table: &Table, id: u32, authority: bool) -> Result<Found, Refused>
+    ensures { as-coded.of_got result ≡ rules.got id authority (records table.now) table.now.store.now }
 {
-    if authority { mark } else { 0 }
-}
-
-fn look(flat: &Columns, n: usize, store: &[u64], id: u32, authority: bool) -> Got
-    ensures { as-coded.of_got result ≡ rules.got id authority (read_from flat.now 0 n) store.now }
-{
-    if !in_order(flat, n, store) {
-        return Got::Refused {
-            number: Refusal::TABLE_NOT_IN_ORDER,
-            place: 0,
-        };
+    if !in_order(table) {
+        return Err(Refusal::TableNotInOrder.into());
     }
-    let at = slot_of(flat, n, id);
-    if at >= n {
-        return Got::Absent;
-    }
-    let s = row(flat, at, id);
+    let Some(at) = slot_of(table, id) else {
+        return Ok(Found::Absent);
+    };
+    let s = row(table.columns, at, id);
     if s.state == State::TYPED {
-        Got::Typed(at)
+        Ok(Found::Typed(at))
     } else {
-        Got::Poisoned(mark_for(authority, s.mark))
+        Ok(Found::Poisoned(if authority { s.mark } else { 0 }))
     }
 }
 
 // The slot or the mark goes where it was lent; without one, what stood there stays.
-fn tell(got: Got, found: &mut u64) -> Answer
+fn tell(got: Result<Found, Refused>, found: &mut u64) -> Answer
     ensures answer { result ≡ rules.told (as-coded.of_got got) }
     ensures written { found.new ≡ rules.found_after (as-coded.of_got got) found.old }
 {
     match got {
-        Got::Absent => accepted(0),
-        Got::Typed(at) => {
+        Ok(Found::Absent) => accepted(0),
+        Ok(Found::Typed(at)) => {
             *found = at as u64;
             accepted(State::TYPED)
         }
-        Got::Poisoned(mark) => {
+        Ok(Found::Poisoned(mark)) => {
             *found = mark;
             accepted(State::POISONED)
         }
-        Got::Refused { number, place } => refused(number, place),
+        Err(e) => refused(e),
     }
 }
 
 // What a table that is given by its columns has under a name.
-pub fn get_among(
-    flat: &Columns,
-    n: usize,
-    store: &[u64],
-    id: u32,
-    authority: bool,
-    found: &mut u64,
-) -> Answer
-    ensures { rules.Tells (rules.got id authority (read_from flat.now 0 n) store.now)
+pub fn get_among(table: &Table, id: u32, authority: bool, found: &mut u64) -> Answer
+    ensures { rules.Tells (rules.got id authority (records table.now) table.now.store.now)
         result found.old found.new }
 {
-    let got = look(flat, n, store, id, authority);
-    tell(got, found)
+    tell(look(table, id, authority), found)
 }
 
 // The type that it has under a name, as the part of the store that holds it.
-pub fn type_among<'a>(flat: &Columns, n: usize, store: &'a [u64], id: u32) -> &'a [u64]
-    ensures { result.now ≡ rules.type_of id (read_from flat.now 0 n) store.now }
+#[tactic(auto, unfolding(crate::specs::Get::type_of))]
+pub fn type_among<'s>(table: &Table<'_, 's>, id: u32) -> &'s [u64]
+    ensures { result.now ≡ rules.type_of id (records table.now) table.now.store.now }
 {
-    match look(flat, n, store, id, true) {
-        Got::Absent => &store[..0],
-        Got::Typed(at) => {
-            let s = row(flat, at, id);
+    let Table { columns, store, .. } = *table;
+    match look(table, id, true) {
+        Ok(Found::Typed(at)) => {
+            let s = row(columns, at, id);
             stored_words(slot_words(store, at), s.layers)
         }
-        Got::Poisoned(_) => &store[..0],
-        Got::Refused {
-            number: _,
-            place: _,
-        } => &store[..0],
+        Ok(Found::Absent | Found::Poisoned(_)) | Err(_) => &store[..0],
     }
 }

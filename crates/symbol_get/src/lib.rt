@@ -3,4 +3,4 @@
 
 mod get;
 
-pub use get::{Got, get_among, type_among};
+pub use get::{Found, get_among, type_among};
