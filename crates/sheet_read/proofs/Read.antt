@@ -8,6 +8,7 @@ use native.Mathlib.Omega.{arith}
 use lib.Dec.{eqb}
 use lib.ListN.{length}
 use borrow.Author.Tests.{eqb-true}
+use Rattle.std.specs.Option.{unwrap_or}
 use Rattle.type_layers.specs.Answer.{Answer, given, nothing, refused, next}
 use Rattle.type_checks.specs.Check.{Place, at, nowhere, unless, bad_count, bad_layer, misplaced, check_of}
 use Rattle.type_layers.specs.Layers.{layers}
@@ -87,7 +88,7 @@ module _ (bs : List ℕ) where
       by_tests : (u t : Bool) → eqb (length bs % 8) 0 ≡ u → is_sheet (whole_words bs) ≡ t → given n ≡ answer u t → Read n
       by_tests true true f g h =
           let k : n ≡ count (whole_words bs) = passed (count (whole_words bs)) n (types (whole_words bs)) (sym h) in
-          let m : types_in (whole_words bs) ≡ count (whole_words bs) = rw g in
+          let m : unwrap_or (types_in (whole_words bs)) 0 ≡ count (whole_words bs) = rw g in
           record {
             short = omega (arith, sheet-short (whole_words bs) g, length-words (length bs / 8) bs, eqb-true (length bs % 8) 0 f);
             few = omega (arith, k, (sheet-known (whole_words bs) g).few);

@@ -1,4 +1,3 @@
-use Prim.Native.Nat.{◌-◌}
 use mathlib.Core.Path.{◌≡◌}
 use lib.ListN.{drop}
 use Rattle.type_layers.specs.Answer.{given}
@@ -8,6 +7,3 @@ use Rattle.sheet_read.proofs.reading.read_words.Given as goal
 
 abbrev pub invariant-loop-k : goal.invariant-loop-k
 invariant-loop-k l = check_all (drop l.k (types l.words)) (given l.n) ≡ read_words l.words
-
-abbrev pub decreases-loop-k : goal.decreases-loop-k
-decreases-loop-k l = l.n - l.k
