@@ -7,6 +7,6 @@ use borrow.Fn.Kinds.{Dens, res_t, ended_of}
 use Rattle.symbol_members.proofs.members.member.Kinds as member-kinds
 use Rattle.symbol_members.proofs.members.member.Reads as member
 
-pub member-single : (κs : Lfts 2) (a : Dens κs member-kinds.ps) (x y : (res_t member-kinds.r κs).Denot) (s t : AtExit (ended_of 2 member-kinds.ps member-kinds.r) κs) →
+pub member-single : (κs : Lfts 3) (a : Dens κs member-kinds.ps) (x y : (res_t member-kinds.r κs).Denot) (s t : AtExit (ended_of 3 member-kinds.ps member-kinds.r) κs) →
     member.Post κs a x s → member.Post κs a y t → x.now ≡ y.now
 member-single κs a x y s t p q = p ∙ sym q
