@@ -61,13 +61,25 @@ module _ (a b : List ℕ) where
   unfolding concretization
   concrete_looked h k = rw (inner-layers (rest b), more a, more b)
 
-  -- where the code holds the outcome of each test
-  pub concrete_pointer : 3 ≤ length a → 3 ≤ length b → (f g v r : Bool) (m : ℕ) (d : List ℕ) →
-      f ≡ same_holder (head a) (head b) → f ≡ false → g ≡ meets_arraylike (get_or a 0 0) (get_or b 0 0) → g ≡ false →
-      m ≡ outer (layers (rest b)) → v ≡ slice_pointer_meets_pointer (get_or a 0 0) (get_or b 0 0) m → v ≡ true →
-      d ≡ inner_words (rest b) → r ≡ like (layers (rest a)) (layers d) → r ≡ concretization (layers a) (layers b)
-  concrete_pointer h k f g v r m d e t p u w j x i q = rw (concrete_looked h k, ← e, t, ← p, u, ← w, ← j, x, ← i) q
+  -- by the outcome of each test, as the code holds it
+  module _ (f r : Bool) (h : 3 ≤ length a) (k : 3 ≤ length b) (e : f ≡ same_holder (head a) (head b)) where
+    pub concrete_held : f ≡ true → r ≡ concretization (layers (rest a)) (layers (rest b)) → r ≡ concretization (layers a) (layers b)
+    concrete_held t q = rw (concrete_looked h k, ← e, t) q
+
+    module _ (g : Bool) (t : f ≡ false) (p : g ≡ meets_arraylike (get_or a 0 0) (get_or b 0 0)) where
+      pub concrete_like : g ≡ true → r ≡ like (layers (rest a)) (layers (rest b)) → r ≡ concretization (layers a) (layers b)
+      concrete_like u q = rw (concrete_looked h k, ← e, t, ← p, u) q
+
+      module _ (v : Bool) (m : ℕ) (u : g ≡ false) (w : m ≡ outer (layers (rest b)))
+          (j : v ≡ slice_pointer_meets_pointer (get_or a 0 0) (get_or b 0 0) m) where
+        pub concrete_pointer : (d : List ℕ) → v ≡ true → d ≡ inner_words (rest b) → r ≡ like (layers (rest a)) (layers d) → r ≡ concretization (layers a) (layers b)
+        concrete_pointer d x i q = rw (concrete_looked h k, ← e, t, ← p, u, ← w, ← j, x, ← i) q
+
+        module _ (z : Bool) (x : v ≡ false) (y : z ≡ resolves (head a) (head b)) where
+          pub concrete_resolved : z ≡ true → z ≡ concretization (layers a) (layers b)
+          concrete_resolved i = rw (concrete_looked h k, ← e, t, ← p, u, ← w, ← j, x, ← y, i)
+
+          pub concrete_same : z ≡ false → r ≡ identical (layers a) (layers b) → r ≡ concretization (layers a) (layers b)
+          concrete_same i q = rw (concrete_looked h k, ← e, t, ← p, u, ← w, ← j, x, ← y, i) q
 
 pub ruleset alike = (like_left, like_right, like_looked)
-
-pub ruleset concrete = (concrete_left, concrete_right, concrete_looked)

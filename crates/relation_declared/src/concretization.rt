@@ -42,7 +42,6 @@ fn resolves(x: [u64; 3], y: [u64; 3]) -> bool
 }
 
 // Whether a type is a concretization of another.
-#[tactic(auto, using(crate::proofs::Decisions::concrete))]
 pub fn can_be_concretization_of(a: &[u64], b: &[u64]) -> bool
     ensures { result ≡ rules.concretization (layers a.now) (layers b.now) }
 {

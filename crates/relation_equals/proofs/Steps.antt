@@ -42,4 +42,4 @@ module _ (a b : List ℕ) where
         by-reading true e f = rw (more a, more b, e, f)
         by-reading false e f = rw (more a, more b, e, f)
 
-pub ruleset steps = (same-none, same-more, same-less, same-outer)
+pub ruleset ends = (same-none, same-more, same-less)

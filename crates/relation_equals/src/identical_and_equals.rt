@@ -17,7 +17,7 @@ fn counted<const CHAR8_IS_UINT8: bool>(k: u64) -> u64
 }
 
 // Whether two types are the same, layer by layer.
-#[tactic(auto, using(crate::proofs::Steps::steps))]
+#[tactic(auto, using(crate::proofs::Steps::ends))]
 fn same<const CHAR8_IS_UINT8: bool>(a: &[u64], b: &[u64]) -> bool
     ensures { result ≡ as-coded.same CHAR8_IS_UINT8 (layers a.now) (layers b.now) }
 {
