@@ -1,3 +1,1 @@
-pub mod Extremes
-pub mod Apart
 pub mod Single

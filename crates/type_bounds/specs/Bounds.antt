@@ -1,5 +1,5 @@
 -- "Lowest and highest values: as `min_i128` and `max_u128` list, in two u64 halves, the lowest in two's complement."
-use Rattle.std.specs.Prelude.{cond, ◌||◌, List, ℕ, ◌-◌, ◌^◌, ◌/◌, ◌%◌, eqb}
+use Rattle.std.specs.Prelude.{◌≡◌, cond, ◌||◌, List, ℕ, ◌-◌, ◌^◌, ◌/◌, ◌%◌, eqb}
 use Rattle.type_numbers.specs.Kind as kind
 use Rattle.type_layers.specs.Layers.{Layer, layers, outer}
 use Rattle.type_layers.specs.Answer.{Answer, given, next}
@@ -9,6 +9,9 @@ use Rattle.type_bounds.specs.declared.bound.Halves.{Halves}
 -- "in two u64 halves"
 abbrev pub halves : ℕ → Halves
 halves n = record { low = n % 2 ^ 64; high = n / 2 ^ 64 }
+
+abbrev pub IsHalved : ℕ → Halves → Type 0
+IsHalved n h = h ≡ halves n
 
 -- "in two's complement": minus n.
 abbrev pub minus : ℕ → ℕ

@@ -4,5 +4,5 @@
 mod bound;
 mod min_and_max;
 
-pub use bound::{Bound, Halves};
+pub use bound::Halves;
 pub use min_and_max::{max_u128, min_i128};

@@ -1,109 +1,61 @@
 ghost use Rattle.std.specs.Prelude.{◌≡◌};
-ghost use Rattle.type_layers.specs.Layers.{layers};
-ghost use Rattle.type_bounds.specs.AsCoded.{of_bound};
+ghost use Rattle.std.specs.Int.{w128, cast_unsigned};
+ghost use Rattle.type_layers.specs.Answer.{of_result};
 ghost use Rattle.type_bounds.specs.Bounds as rules;
 ghost use Rattle.type_bounds.specs.Bounds.{lowest_answer, highest_answer};
 
-use crate::bound::{Bound, Halves};
+use crate::bound::Halves;
 use type_first_refusal::check_type;
-use type_layers::{Checked, outer};
+use type_layers::{Refused, outer};
 use type_numbers::Kind;
 
-const ZERO: Halves = Halves { low: 0, high: 0 };
-
-// All 64 bits.
-const MOST: u64 = 18446744073709551615;
-
-// The halves of the lowest value of each kind up to Int128, in two's complement.
-const LOWEST_LOW: [u64; 6] = [
-    0,
-    18446744073709551488,
-    18446744073709518848,
-    18446744071562067968,
-    9223372036854775808,
-    0,
-];
-
-const LOWEST_HIGH: [u64; 6] = [0, MOST, MOST, MOST, MOST, 9223372036854775808];
-
-// The halves of the highest value of each kind up to Char8.
-const HIGHEST_LOW: [u64; 13] = [
-    0,
-    127,
-    32767,
-    2147483647,
-    9223372036854775807,
-    MOST,
-    255,
-    65535,
-    4294967295,
-    MOST,
-    MOST,
-    MOST,
-    255,
-];
-
-const HIGHEST_HIGH: [u64; 13] = [0, 0, 0, 0, 0, 9223372036854775807, 0, 0, 0, 0, MOST, 0, 0];
-
-// The lowest value; of no kind 0.
-fn lowest(a: &[u64]) -> Halves
-    ensures { result ≡ rules.lowest (layers a.now) }
+// The lowest value of a kind; of one that has none 0.
+fn lowest_of(k: u64) -> i128
+    ensures { cast_unsigned w128 result ≡ rules.lowest_of k }
 {
-    let k = outer(a);
-    if k >= 6 {
-        return ZERO;
-    }
-    Halves {
-        low: LOWEST_LOW[k as usize],
-        high: LOWEST_HIGH[k as usize],
+    match k {
+        Kind::INT8 => i8::MIN as i128,
+        Kind::INT16 => i16::MIN as i128,
+        Kind::INT32 => i32::MIN as i128,
+        Kind::INT64 => i64::MIN as i128,
+        Kind::INT128 => i128::MIN,
+        _ => 0,
     }
 }
 
-// The highest value; of no kind 0.
-fn highest(a: &[u64]) -> Halves
-    ensures { result ≡ rules.highest (layers a.now) }
+// The highest value of a kind; of one that has none 0.
+fn highest_of(k: u64) -> u128
+    ensures { result ≡ rules.highest_of k }
 {
-    let k = outer(a);
-    if (k == Kind::POINTER) | (k == Kind::VIEW) {
-        return Halves { low: MOST, high: 0 };
-    }
-    if k >= 13 {
-        return ZERO;
-    }
-    Halves {
-        low: HIGHEST_LOW[k as usize],
-        high: HIGHEST_HIGH[k as usize],
+    match k {
+        Kind::INT8 => i8::MAX as u128,
+        Kind::INT16 => i16::MAX as u128,
+        Kind::INT32 => i32::MAX as u128,
+        Kind::INT64 => i64::MAX as u128,
+        Kind::INT128 => i128::MAX as u128,
+        Kind::UINT8 | Kind::CHAR8 => u8::MAX as u128,
+        Kind::UINT16 => u16::MAX as u128,
+        Kind::UINT32 => u32::MAX as u128,
+        Kind::UINT64 | Kind::USIZE | Kind::POINTER | Kind::VIEW => u64::MAX as u128,
+        Kind::UINT128 => u128::MAX,
+        _ => 0,
     }
 }
 
 // The lowest value, for any words.
-pub fn min_i128(a: &[u64]) -> Bound
-    ensures { of_bound result ≡ lowest_answer a.now }
+#[tactic(auto, unfolding(crate::specs::Bounds::lowest_answer, crate::specs::Bounds::lowest))]
+pub fn min_i128(a: &[u64]) -> Result<Halves, Refused>
+    ensures { of_result result ≡ lowest_answer a.now }
 {
-    match check_type(a) {
-        Checked::Refused { number, place } => Bound::Refused { number, place },
-        Checked::Good(_) => {
-            let least = lowest(a);
-            Bound::Value {
-                low: least.low,
-                high: least.high,
-            }
-        }
-    }
+    check_type(a)?;
+    Ok(Halves::from(lowest_of(outer(a)).cast_unsigned()))
 }
 
 // The highest value, for any words.
-pub fn max_u128(a: &[u64]) -> Bound
-    ensures { of_bound result ≡ highest_answer a.now }
+#[tactic(auto, unfolding(crate::specs::Bounds::highest_answer, crate::specs::Bounds::highest))]
+pub fn max_u128(a: &[u64]) -> Result<Halves, Refused>
+    ensures { of_result result ≡ highest_answer a.now }
 {
-    match check_type(a) {
-        Checked::Refused { number, place } => Bound::Refused { number, place },
-        Checked::Good(_) => {
-            let most = highest(a);
-            Bound::Value {
-                low: most.low,
-                high: most.high,
-            }
-        }
-    }
+    check_type(a)?;
+    Ok(Halves::from(highest_of(outer(a))))
 }
