@@ -1,17 +1,24 @@
 -- The report and the two outputs, by what became of the plan.
 -- Assumes nothing.
-use mathlib.Core.Path.{◌≡◌, refl, sym, ap, ◌∙◌}
+use mathlib.Core.Path.{◌≡◌, refl, ap, ◌∙◌}
 use mathlib.Core.Bool.{Bool, true, false, ◌||◌, true≢false}
 use mathlib.Core.List.{List, ◌∷◌, ◌++◌}
-use Prim.Native.Nat.{ℕ, zero, suc, ◌+◌, ◌*◌, ◌-◌, ◌/◌, ◌≤◌, ◌<◌}
+use Rattle.std.specs.List.{flat_map}
+use Prim.Native.Nat.{ℕ, zero, suc, ◌+◌, ◌*◌, ◌/◌, ◌%◌, ◌≤◌, ◌<◌}
 use native.Mathlib.Omega.{arith}
 use lib.Dec.{ltb}
 use lib.ListN.{length, take, replicate, length-append, length-replicate}
-use lib.Seq.{take_at, length-take-le}
 use borrow.Author.Tests.{lt-ltb, le-ltb, ltb-false}
+use Rattle.std.specs.Prelude.{Result, Ok, Err}
+use Rattle.type_numbers.specs.AsCoded.{words}
+use Rattle.type_numbers.specs.Refusal.{number_of}
+use Rattle.type_numbers.specs.declared.refusal.Refusal.{Refusal}
+use Rattle.type_numbers.specs.declared.refusal.Refusal.TheVariants as refusal
+use Rattle.type_numbers.specs.Kind as kind
 use Rattle.type_layers.specs.Layers.{Layer, layers, spelled}
 use Rattle.type_layers.specs.AsCoded.{Whole}
-use Rattle.type_layers.specs.Answer.{Answer, given, refused}
+use Rattle.type_layers.specs.Answer.{Answer, given, nothing, refused, of_result, IsUnplaced}
+use Rattle.type_layers.specs.declared.answers.Refused.{Refused}
 use Rattle.type_layers.proofs.Spelling.{spelled-length, spelled-append, spelled-layers}
 use Rattle.write_words.specs.Written.{written}
 use Rattle.write_words.proofs.Writing.{part, put, front-first}
@@ -22,25 +29,21 @@ use Rattle.plan_ending.specs.declared.ending.Ending.{Ending}
 use Rattle.plan_report.specs.declared.report.Report.{Report}
 use Rattle.plan_report.specs.Plan.{Plan}
 use Rattle.plan_report.specs.AsCoded.{plan_of_words}
-use Rattle.plan_report.specs.Report.{delivered, not_given, told, steps_over, type_over, Hands}
+use Rattle.plan_report.specs.Report.{delivered, told, steps_over, type_over, report_of, HandsResult, Reports}
 
-pub refuses : (d : Answer Plan) (n p : ℕ) (s t : List ℕ) → d ≡ refused n p → Hands d (not_given n p) s s t t
-unfolding told steps_over type_over
-refuses d n p s t e = rw e (refl, (refl, refl))
+pub refuses : (d : Answer Plan) (r : Refusal) (x : Refused) (s t : List ℕ) → d ≡ refused (number_of r) 0 → IsUnplaced r x → HandsResult d (Err x) s s t t
+unfolding steps_over type_over
+refuses d r x s t e q = rw (e, q) (refl, (refl, refl))
 
--- an outcome that is a refusal
-module _ (n p : ℕ) (outcome : Answer Plan) (e : outcome ≡ refused n p) where
-  pub told-refused : (r : Report) → r ≡ not_given n p → r ≡ told outcome
-  unfolding told
-  told-refused r i = rw e i
-
-  pub steps-stay : (s : List ℕ) → s ≡ steps_over outcome s
-  unfolding steps_over
-  steps-stay s = rw e refl
-
-  pub type-stays : (t : List ℕ) → t ≡ type_over outcome t
-  unfolding type_over
-  type-stays t = rw e refl
+-- the report of what was handed out
+pub reports : (d : Answer Plan) (x : Result Report Refused) (r : Report) → of_result x ≡ report_of d → Reports x r → r ≡ told d
+unfolding told
+reports (given p) (Ok y) r e q = cc
+reports (given p) (Err y) r e q = cc
+reports nothing (Ok y) r e q = cc
+reports nothing (Err y) r e q = cc
+reports (refused n i) (Ok y) r e q = cc
+reports (refused n i) (Err y) r e q = cc
 
 -- neither of two runs is too short
 pub second_fits : (a b c d : ℕ) → (ltb a b || ltb c d) ≡ false → d ≤ c
@@ -50,42 +53,35 @@ second_fits a b c d e = by_first (ltb a b) e
     by_first true e = absurd (true≢false e)
     by_first false e = ltb-false c d e
 
-pointers-more : (l k : ℕ) → replicate (l + k) pointer ≡ replicate l pointer ++ replicate k pointer
-pointers-more zero k = let e : 0 + k ≡ k = omega arith in rw e
-pointers-more (suc l) k = let e : suc l + k ≡ suc (l + k) = omega arith in rw e (ap (λ (a : List Layer). pointer ∷ a) (pointers-more l k))
-
+-- the words of so many Pointers
 pointers-length : (l : ℕ) → length (spelled (replicate l pointer)) ≡ 3 * l
 pointers-length l = rw (spelled-length (replicate l pointer), length-replicate l pointer)
 
--- the first of sixteen Pointers
-pub some-pointers : (f : List ℕ) (l : ℕ) → f ≡ spelled (replicate 16 pointer) → 3 * l ≤ 48 → take (3 * l) f ≡ spelled (replicate l pointer)
-some-pointers f l e h =
-    let n : 16 ≡ l + (16 - l) = omega arith in
-    let i : f ≡ spelled (replicate l pointer) ++ spelled (replicate (16 - l) pointer) =
-    e ∙ ap (λ (k : ℕ). spelled (replicate k pointer)) n ∙ rw (pointers-more l (16 - l), spelled-append) refl in
-    rw i (take_at (spelled (replicate l pointer)) (spelled (replicate (16 - l) pointer)) (3 * l) (pointers-length l))
+front-more : (k l : ℕ) → l ≤ k → take l (replicate k (words kind.pointer 0 0)) ≡ replicate l (words kind.pointer 0 0)
+front-more k zero h = refl
+front-more zero (suc l) h = absurd (omega arith)
+front-more (suc k) (suc l) h = ap (λ (a : List (List ℕ)). words kind.pointer 0 0 ∷ a) (front-more k l (omega arith))
 
-pub front_length : (f : List ℕ) (l : ℕ) → f ≡ spelled (replicate 16 pointer) → 3 * l ≤ 48 → 3 * l ≡ length (take (3 * l) f)
-front_length f l e h = sym (ap length (some-pointers f l e h) ∙ pointers-length l)
+flat : (l : ℕ) → flat_map (λ (x : List ℕ). x) (replicate l (words kind.pointer 0 0)) ≡ spelled (replicate l pointer)
+unfolding spelled
+flat zero = refl
+flat (suc l) = ap (λ (a : List ℕ). kind.pointer ∷ 0 ∷ 0 ∷ a) (flat l)
 
-module _ (b : List ℕ) (m taken : ℕ) (e : Ending) (body s t : List ℕ) (room : 4 * m ≤ length b) (w : Whole body) where
-  abbrev ws : List ℕ
-  ws = take (4 * m) b
+pub front : (f : List ℕ) (l : ℕ) → f ≡ flat_map (λ (x : List ℕ). x) (take l (replicate 16 (words kind.pointer 0 0))) → l ≤ 16 → f ≡ spelled (replicate l pointer)
+front f l e h = e ∙ rw (front-more 16 l h) (flat l)
 
+module _ (ws : List ℕ) (taken : ℕ) (e : Ending) (body s t : List ℕ) (fours : length ws % 4 ≡ 0) (w : Whole body) where
   abbrev type : List Layer
   type = replicate e.lead pointer ++ layers body
 
   abbrev outcome : Answer Plan
   outcome = delivered (length s) (length t) (plan_of_words ws taken e body)
 
-  step_count : length ws ≡ 4 * m
-  step_count = length-take-le (4 * m) b room
-
   step_words_lem : step_words (steps ws) ≡ ws
-  step_words_lem = words-whole ws (omega (arith, step_count))
+  step_words_lem = words-whole ws fours
 
-  step-number : length (steps ws) ≡ m
-  step-number = omega (arith, step_count, words-length (steps ws), ap length step_words_lem)
+  step-number : length (steps ws) ≡ length ws / 4
+  step-number = omega (arith, words-length (steps ws), ap length step_words_lem)
 
   type-words : spelled type ≡ spelled (replicate e.lead pointer) ++ body
   type-words = rw (spelled-append, spelled-layers body w.whole)
@@ -93,29 +89,30 @@ module _ (b : List ℕ) (m taken : ℕ) (e : Ending) (body s t : List ℕ) (room
   type-count : length (spelled type) ≡ 3 * e.lead + length body
   type-count = rw (type-words, length-append, pointers-length) refl
 
-  pub too_wide : 48 < 3 * e.lead + length body → Hands outcome (not_given 15 0) s s t t
+  pub too_wide : 48 < 3 * e.lead + length body → (x : Refused) → IsUnplaced refusal.TooManyLayers x → HandsResult outcome (Err x) s s t t
   unfolding plan_of_words delivered
-  too_wide h =
+  too_wide h x q =
       let n : 16 < length type = omega (arith, type-count, spelled-length type) in
-      refuses outcome 15 0 s t (rw (lt-ltb 16 (length type) n))
+      refuses outcome refusal.TooManyLayers x s t (rw (lt-ltb 16 (length type) n)) q
 
   module _ (h : 3 * e.lead + length body ≤ 48) where
     narrow_type : length type ≤ 16
     narrow_type = omega (arith, type-count, spelled-length type)
 
-    pub too_short : (ltb (length s) (4 * m) || ltb (length t) (3 * e.lead + length body)) ≡ true → Hands outcome (not_given 14 0) s s t t
+    pub too_short : (ltb (length s) (length ws) || ltb (length t) (3 * e.lead + length body)) ≡ true →
+        (x : Refused) → IsUnplaced refusal.OutputTooShort x → HandsResult outcome (Err x) s s t t
     unfolding plan_of_words delivered
-    too_short f = refuses outcome 14 0 s t (rw (le-ltb 16 (length type) narrow_type, step_words_lem, step_count, type-count, f))
+    too_short f x q = refuses outcome refusal.OutputTooShort x s t (rw (le-ltb 16 (length type) narrow_type, step_words_lem, type-count, f)) q
 
-    module _ (f : (ltb (length s) (4 * m) || ltb (length t) (3 * e.lead + length body)) ≡ false) where
+    module _ (f : (ltb (length s) (length ws) || ltb (length t) (3 * e.lead + length body)) ≡ false) where
       pub fit : outcome ≡ given (record { steps = steps ws; taken = taken; type = type; address = e.address; coerced = e.coerced })
       unfolding plan_of_words delivered
-      fit = rw (le-ltb 16 (length type) narrow_type, step_words_lem, step_count, type-count, f)
+      fit = rw (le-ltb 16 (length type) narrow_type, step_words_lem, type-count, f)
 
       pub wrote : (f₁ x y z : List ℕ) → 3 * e.lead + length body ≤ length t → f₁ ≡ spelled (replicate e.lead pointer) →
           x ≡ written ws s → y ≡ written f₁ t → z ≡ written body (part (3 * e.lead) y) →
-          Hands outcome
-          (record { refusal = 0; value = 0; steps = m; taken = taken; layers = (3 * e.lead + length body) / 3; address = e.address; coerced = e.coerced })
+          HandsResult outcome
+          (Ok (record { refusal = 0; value = 0; steps = length ws / 4; taken = taken; layers = (3 * e.lead + length body) / 3; address = e.address; coerced = e.coerced }))
           s x t (put (3 * e.lead) y z)
       unfolding told steps_over type_over
       wrote f₁ x y z r p q i j =

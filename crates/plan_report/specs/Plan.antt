@@ -2,9 +2,9 @@
 use Rattle.std.specs.Prelude.{Bool, cond, List, ℕ, ltb, length}
 use Rattle.type_numbers.specs.Limit as limit
 use Rattle.type_numbers.specs.Refusal as refusal
-use Rattle.type_layers.specs.Layers.{Layer, layers}
+use Rattle.type_layers.specs.Layers.{Layer}
 use Rattle.type_layers.specs.Answer.{Answer, given, refused}
-use Rattle.plan_steps.specs.Steps.{Step, steps}
+use Rattle.plan_steps.specs.Steps.{Step}
 
 pub record Plan : Type 0 where
   pub steps : List Step

@@ -1,8 +1,10 @@
 -- A plan as it is told and written. There are two outputs, steps and type; where one is too short, neither is touched.
-use Rattle.std.specs.Prelude.{◌≡◌, false, cond, ◌||◌, List, ℕ, ◌*◌, ltb, length, take}
+use Rattle.std.specs.Prelude.{◌≡◌, false, cond, ◌||◌, List, ℕ, ◌*◌, ltb, length, take, Result, Ok, Err}
 use Rattle.type_numbers.specs.Refusal as refusal
+use Rattle.type_numbers.specs.Refusal.{number_of}
 use Rattle.type_layers.specs.Layers.{layers, spelled}
-use Rattle.type_layers.specs.Answer.{Answer, given, nothing, refused}
+use Rattle.type_layers.specs.Answer.{Answer, given, nothing, refused, of_result}
+use Rattle.type_layers.specs.declared.answers.Refused.{Refused}
 use Rattle.write_words.specs.Written.{written}
 use Rattle.plan_steps.specs.Steps.{steps, step_words}
 use Rattle.plan_report.specs.declared.report.Report.{Report}
@@ -51,6 +53,23 @@ Hands a r b b' c c' = (r ≡ told a) × ((b' ≡ steps_over a b) × (c' ≡ type
 -- The same for an answer that asks how long the outputs are.
 abbrev pub Delivers : (ℕ → ℕ → Answer Plan) → Report → List ℕ → List ℕ → List ℕ → List ℕ → Type 0
 Delivers answer r b b' c c' = Hands (answer (length b) (length c)) r b b' c c'
+
+-- The same, where the report of a plan that is not given is not made yet.
+abbrev pub report_of : Answer Plan → Answer Report
+report_of (given p) = given (told (given p))
+report_of nothing = nothing
+report_of (refused n q) = refused n q
+
+abbrev pub HandsResult : Answer Plan → Result Report Refused → List ℕ → List ℕ → List ℕ → List ℕ → Type 0
+HandsResult a r b b' c c' = (of_result r ≡ report_of a) × ((b' ≡ steps_over a b) × (c' ≡ type_over a c))
+
+abbrev pub DeliversResult : (ℕ → ℕ → Answer Plan) → Result Report Refused → List ℕ → List ℕ → List ℕ → List ℕ → Type 0
+DeliversResult answer r b b' c c' = HandsResult (answer (length b) (length c)) r b b' c c'
+
+-- The report itself, for C.
+abbrev pub Reports : Result Report Refused → Report → Type 0
+Reports (Ok r) s = s ≡ r
+Reports (Err e) s = s ≡ not_given (number_of e.refusal) e.place
 
 -- The plan that stands in a report and in the two outputs: so many steps, and so many layers, from the first words on.
 abbrev pub plan_read : Report → List ℕ → List ℕ → Plan

@@ -2,8 +2,7 @@
 #![tactic(auto)]
 
 mod delivery;
-mod pointers;
 mod report;
 
-pub use delivery::{deliver, refuse};
-pub use report::Report;
+pub use delivery::{Draft, deliver};
+pub use report::{Report, refuse};

@@ -1,6 +1,12 @@
+ghost use Rattle.std.specs.Prelude.{◌≡◌};
+ghost use Rattle.type_numbers.specs.Refusal.{number_of};
+ghost use Rattle.plan_report.specs.Report.{not_given, Reports};
+
+use type_layers::Refused;
+
 // A plan as it is told: its refusal, or how many steps and layers were written and what the plan does then.
 #[repr(C)]
-#[derive(Clone, Copy)]
+#[derive(Clone, Copy, Debug, PartialEq, Eq)]
 pub struct Report {
     pub refusal: u64,
     pub value: u64,
@@ -9,4 +15,31 @@ pub struct Report {
     pub layers: u64,
     pub address: bool,
     pub coerced: bool,
+}
+
+// What is told of no plan.
+pub fn refuse(e: Refused) -> Report
+    ensures { result ≡ not_given (number_of e.refusal) e.place }
+{
+    Report {
+        refusal: u64::from(e.refusal),
+        value: e.place,
+        steps: 0,
+        taken: 0,
+        layers: 0,
+        address: false,
+        coerced: false,
+    }
+}
+
+// The report of a plan, or why there is none.
+impl From<Result<Report, Refused>> for Report {
+    ghost from_gives = { Reports };
+
+    fn from(planned: Result<Report, Refused>) -> Report {
+        match planned {
+            Ok(report) => report,
+            Err(e) => refuse(e),
+        }
+    }
 }
