@@ -1,5 +1,7 @@
-ghost use Rattle.std.specs.Prelude.{◌≡◌};
+ghost use Rattle.std.specs.Prelude.{◌≡◌, ◌||◌};
 ghost use Rattle.type_layers.specs.Layers.{layers};
+ghost use Rattle.relation_declared.specs.Declared.{concretization};
+ghost use Rattle.relation_coerces.specs.Coerces.{coerces};
 ghost use Rattle.symbol_update_rule.specs.Rule.{line_of};
 ghost use Rattle.symbol_update_rule.specs.AsCoded.{of_line};
 
@@ -9,7 +11,7 @@ use relation_equals::identical;
 use type_wellformed::is_wellformed;
 
 // The lines of the rule, in its order.
-#[derive(Clone, Copy)]
+#[derive(Clone, Copy, Debug, PartialEq, Eq)]
 pub enum Line {
     Poisoned,
     IllFormed,
@@ -19,7 +21,16 @@ pub enum Line {
     Conflicting,
 }
 
+#[tactic(auto, using(crate::proofs::Choices::read_as_value))]
+fn fits_into(offered: &[u64], stored: &[u64]) -> bool
+    ensures { result ≡ (concretization (layers offered.now) (layers stored.now)
+        || coerces (layers offered.now) (layers stored.now)) }
+{
+    can_be_concretization_of(offered, stored) || coerces(offered, stored).is_as_value()
+}
+
 // The first line that applies. authoritative: the symbol is; newly: the new identifier is.
+#[tactic(auto, unfolding(crate::specs::Rule::line_of))]
 pub fn decide(
     poisoned: bool,
     authoritative: bool,
@@ -30,20 +41,16 @@ pub fn decide(
     ensures { of_line result ≡ line_of poisoned authoritative newly (layers stored.now) (layers offered.now) }
 {
     if poisoned {
-        return Line::Poisoned;
+        Line::Poisoned
+    } else if !(is_wellformed(offered) && is_wellformed(stored)) {
+        Line::IllFormed
+    } else if identical(stored, offered) || can_be_concretization_of(stored, offered) {
+        Line::Kept
+    } else if authoritative && can_be_declared_as(offered, stored) {
+        Line::TypeReplaced
+    } else if newly && fits_into(offered, stored) {
+        Line::BothReplaced
+    } else {
+        Line::Conflicting
     }
-    if !(is_wellformed(offered) & is_wellformed(stored)) {
-        return Line::IllFormed;
-    }
-    if identical(stored, offered) | can_be_concretization_of(stored, offered) {
-        return Line::Kept;
-    }
-    if authoritative & can_be_declared_as(offered, stored) {
-        return Line::TypeReplaced;
-    }
-    let coerced = coerces(offered, stored).is_as_value();
-    if newly & (can_be_concretization_of(offered, stored) | coerced) {
-        return Line::BothReplaced;
-    }
-    Line::Conflicting
 }
