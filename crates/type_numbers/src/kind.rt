@@ -1,4 +1,5 @@
-// A kind of layer: its number. A constant and no enum: C lends layers as words, and `outer` and the rules answer for any word.
+// A kind of layer: its number. "Each kind's number is a constant of the kind", as document 01 names the form, and no enum:
+// C lends layers as words, and `outer` and the rules answer for any word.
 #[derive(Clone, Copy)]
 pub struct Kind(pub u64);
 
