@@ -1,4 +1,3 @@
--- What the proofs of several functions use, and what follows from the definitions.
-pub mod Told
+-- What follows from the definitions and the contracts.
 pub mod Theorems
 pub mod Single

@@ -7,10 +7,10 @@ use relation_coerces::{can_autoderef_into, can_subautoderef_into};
 use relation_declared::{can_be_concretization_of, can_be_declared_as, is_like};
 use relation_equals::{equals, identical};
 use type_first_refusal::check_types;
-use type_layers::{Checked, Verdict};
+use type_layers::Refused;
 
 // The relations of yes or no that can be asked for.
-#[derive(Clone, Copy)]
+#[derive(Clone, Copy, Debug, PartialEq, Eq)]
 pub enum Relation {
     Identical,
     Equals,
@@ -36,11 +36,10 @@ fn holds(relation: Relation, a: &[u64], b: &[u64]) -> bool
 }
 
 // Whether any words are two types of which the first stands so to the second.
-pub fn relates(relation: Relation, a: &[u64], b: &[u64]) -> Verdict
+#[tactic(auto, unfolding(crate::specs::Questions::relation_answer))]
+pub fn relates(relation: Relation, a: &[u64], b: &[u64]) -> Result<bool, Refused>
     ensures { of_verdict result ≡ answers.relation_answer relation a.now b.now }
 {
-    match check_types(a, b) {
-        Checked::Refused { number, place } => Verdict::Refused { number, place },
-        Checked::Good(_) => Verdict::of(holds(relation, a, b)),
-    }
+    check_types(a, b)?;
+    Ok(holds(relation, a, b))
 }

@@ -4,5 +4,5 @@
 mod ask_coercion;
 mod ask_relation;
 
-pub use ask_coercion::{CoercionAnswer, coerces};
+pub use ask_coercion::coerces;
 pub use ask_relation::{Relation, relates};
