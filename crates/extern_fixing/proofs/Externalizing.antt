@@ -1,20 +1,18 @@
 -- Externalizing, layer by layer.
 -- Assumes nothing.
 use mathlib.Core.Path.{◌≡◌, refl, sym, ap, ◌∙◌}
-use mathlib.Core.Bool.{Bool, true, false, cond, not, ◌||◌, true≢false, false≢true}
+use mathlib.Core.Bool.{Bool, true, false, cond, ◌||◌, true≢false, false≢true}
 use mathlib.Core.List.{List, [], ◌∷◌, ◌++◌}
 use Prim.Native.Nat.{ℕ, suc, ◌+◌, ◌%◌, ◌≤◌, ◌<◌}
 use native.Mathlib.Omega.{arith}
 use lib.Dec.{eqb}
 use lib.ListN.{length, get_or, length-take, length-drop}
-use borrow.Author.Tests.{eqb-true, not-true, not-false}
+use borrow.Author.Tests.{eqb-true}
 use Rattle.type_numbers.specs.Kind as kind
 use Rattle.type_numbers.specs.AsCoded.{words}
 use Rattle.type_layers.specs.Layers.{Layer, layer, layers, is_reference, spelled}
 use Rattle.type_layers.specs.AsCoded.{head}
-use Rattle.type_layers.specs.Answer.{Answer, given, nothing, refused, of_checked}
-use Rattle.type_layers.specs.declared.answers.Checked.{Checked}
-use Rattle.type_layers.specs.declared.answers.Checked.TheVariants.{Good, Refused}
+use Rattle.type_layers.specs.Answer.{Answer, given, nothing, refused}
 use Rattle.type_layers.proofs.Words.{rest, none, more}
 use Rattle.write_words.specs.Written.{written}
 use Rattle.write_words.proofs.Writing.{part, put, put_back, front-last}
@@ -143,31 +141,31 @@ module _ (t : List ℕ) (p : ℕ) (m : List ℕ) where
         rw (k, spelled-layers t w) (refl, r)
 
     module _ (q : f ≡ false) (g : Bool) (d : g ≡ goes (get_or t 0 0)) where
-      pub refused-here : not g ≡ true → (refused 6 p ≡ told outcome) × (m ≡ over outcome m)
-      refused-here n = stays outcome 6 p m ((rw (more t)) ∙ refuses p (head t) (layers (rest t)) (sym e ∙ q) (sym d ∙ not-true g n))
+      pub refused-here : g ≡ false → (refused 6 p ≡ told outcome) × (m ≡ over outcome m)
+      refused-here n = stays outcome 6 p m ((rw (more t)) ∙ refuses p (head t) (layers (rest t)) (sym e ∙ q) (sym d ∙ n))
 
-      module _ (n : not g ≡ false) (r : Checked) (y : List ℕ) where
+      module _ (n : g ≡ true) (y : List ℕ) where
         abbrev within : Answer (List Layer)
         within = externalized (p + 1) (layers (rest t))
 
         inside : outcome ≡ under (turned (head t) ∷ []) within
-        inside = (rw (more t)) ∙ goes-inside p (head t) (layers (rest t)) (sym e ∙ q) (sym d ∙ not-false g n)
+        inside = (rw (more t)) ∙ goes-inside p (head t) (layers (rest t)) (sym e ∙ q) (sym d ∙ n)
 
-        module _ (a : of_checked r ≡ told within) (b : y ≡ over within (part 3 m)) where
-          pub refused-inside : (i j : ℕ) → r ≡ Refused i j → (refused i j ≡ told outcome) × (put 3 m y ≡ over outcome m)
+        module _ (b : y ≡ over within (part 3 m)) where
+          pub refused-inside : (i j : ℕ) → refused i j ≡ told within → (refused i j ≡ told outcome) × (put 3 m y ≡ over outcome m)
           unfolding under over
-          refused-inside i j c =
-              let w : within ≡ refused i j = told-refused within i j (rw c at a) in
+          refused-inside i j a =
+              let w : within ≡ refused i j = told-refused within i j a in
               let o : outcome ≡ refused i j = inside ∙ rw w in
               let same : put 3 m y ≡ m = rw (b, w) (put_back 3 m) in
               rw same (stays outcome i j m o)
 
-          pub made_inside : (i : ℕ) (l w : List ℕ) → length t % 3 ≡ 0 → length t ≤ length m → r ≡ Good i →
+          pub made_inside : (i : ℕ) (l w : List ℕ) → length t % 3 ≡ 0 → length t ≤ length m → given i ≡ told within →
               w ≡ cond (eqb (get_or t 0 0) kind.arraylike) (words kind.endless_array 0 0) (words (get_or t 0 0) (get_or t 1 0) (get_or t 2 0)) →
               l ≡ written w (put 3 m y) → (given (length t) ≡ told outcome) × (l ≡ over outcome m)
           unfolding under over told spelled
-          made_inside i l w whole room c z v =
-              let u = told-given within i (rw c at a) in
+          made_inside i l w whole room a z v =
+              let u = told-given within i a in
               by-type u.type u.made
             where
               by-type : (b : List Layer) → within ≡ given b → (given (length t) ≡ told outcome) × (l ≡ over outcome m)

@@ -1,26 +1,27 @@
 -- What becomes of a type, by what the code tested.
 -- Assumes nothing.
 use mathlib.Core.Path.{◌≡◌, refl, sym, ap, ◌∙◌}
-use mathlib.Core.Bool.{Bool, true, false, not}
+use mathlib.Core.Bool.{Bool, true, false}
 use mathlib.Core.List.{List, [], ◌∷◌, ◌++◌}
 use Prim.Native.Nat.{ℕ, ◌%◌, ◌≤◌, ◌<◌}
 use native.Mathlib.Omega.{arith}
+use lib.Dec.{ltb}
 use lib.ListN.{length, take, drop}
-use lib.Seq.{take_at, length-take-le}
-use borrow.Author.Tests.{eq-eqb, ne_eqb, lt-ltb, le-ltb, not-true, not-false}
+use lib.Seq.{take_at}
+use borrow.Author.Tests.{eq-eqb, ne_eqb, lt-ltb, le-ltb}
 use Rattle.type_numbers.specs.Kind as kind
 use Rattle.type_layers.specs.Layers.{Layer, layer, layers, outer, spelled}
 use Rattle.type_layers.specs.AsCoded.{Whole}
-use Rattle.type_layers.specs.Answer.{Answer, given, nothing, refused, of_checked}
+use Rattle.type_layers.specs.Answer.{Answer, given, nothing, refused}
 use Rattle.type_checks.specs.Check.{check_of}
-use Rattle.type_layers.specs.declared.answers.Checked.{Checked}
-use Rattle.type_layers.specs.declared.answers.Checked.TheVariants.{Good, Refused}
 use Rattle.type_layers.proofs.Words.{inner-layers, inner-whole}
 use Rattle.type_wellformed.specs.WellFormed.{well_formed}
 use Rattle.write_words.specs.Written.{written}
 use Rattle.write_words.proofs.Writing.{fits}
 use Rattle.extern_fixing.specs.Fixing.{under, externalized, externalize, fixed_extern, fixed}
-use Rattle.type_numbers.specs.Context.{member}
+use Rattle.type_numbers.specs.Context.{member, number_of}
+use Rattle.type_numbers.specs.declared.context.Context.{Context}
+use Rattle.type_numbers.specs.declared.context.Context.TheVariants as of-context
 use Rattle.extern_plain.specs.Plain.{fixed_plain}
 use Rattle.write_type.specs.Outcome.{delivered, told, over}
 use Rattle.type_checks.proofs.Accepted.{accepted-whole}
@@ -29,8 +30,8 @@ use Rattle.type_layers.proofs.Spelling.{spelled-length, spelled-layers, layers-s
 use Rattle.extern_fixing.proofs.Externalizing.{told-refused, told-given, same_length}
 
 -- words that pass the checks are whole layers, and so are those inside
-pub checked-whole : (ws : List ℕ) (r : Checked) (i : ℕ) → of_checked r ≡ check_of ws → r ≡ Good i → Whole ws
-checked-whole ws r i e h = accepted-whole ws i (sym e ∙ rw h)
+pub checked-whole : (ws : List ℕ) (i : ℕ) → given i ≡ check_of ws → Whole ws
+checked-whole ws i e = accepted-whole ws i (sym e)
 
 pub whole-inside : (ws l : List ℕ) → Whole ws → l ≡ drop 3 ws → Whole l
 whole-inside ws l w e = rw e (inner-whole ws w)
@@ -41,27 +42,27 @@ module _ (room place : ℕ) (front : List Layer) (t : List ℕ) where
   made_of = delivered room (under front (externalize place (layers t)))
 
   module _ (f : Bool) (e : f ≡ well_formed (layers t)) where
-    pub ill-formed : not f ≡ true → made_of ≡ refused 4 0
+    pub ill-formed : f ≡ false → made_of ≡ refused 4 0
     unfolding externalize under delivered
-    ill-formed n = rw (← e, not-true f n)
+    ill-formed n = rw (← e, n)
 
-    module _ (n : not f ≡ false) where
-      pub not-allowed : (r : Checked) (i j : ℕ) → of_checked r ≡ told (externalized place (layers t)) → r ≡ Refused i j → made_of ≡ refused i j
+    module _ (n : f ≡ true) where
+      pub not-allowed : (i j : ℕ) → refused i j ≡ told (externalized place (layers t)) → made_of ≡ refused i j
       unfolding externalize under delivered
-      not-allowed r i j a c =
-          let w = told-refused (externalized place (layers t)) i j (rw c at a) in
-          rw (← e, not-false f n, w)
+      not-allowed i j a =
+          let w = told-refused (externalized place (layers t)) i j a in
+          rw (← e, n, w)
 
       pub allowed : (b : List Layer) → externalized place (layers t) ≡ given b → delivered room (given (front ++ b)) ≡ made_of
       unfolding externalize under
-      allowed b w = rw (← e, not-false f n, w)
+      allowed b w = rw (← e, n, w)
 
 -- the words that it made are the front of the buffer
-pub copied : (t z made : List ℕ) (place i : ℕ) (r : Checked) → length t % 3 ≡ 0 → length t ≤ length z → of_checked r ≡ told (externalized place (layers t)) →
-    r ≡ Good i → made ≡ over (externalized place (layers t)) z → externalized place (layers t) ≡ given (layers (take (length t) made))
+pub copied : (t z made : List ℕ) (place i : ℕ) → length t % 3 ≡ 0 → length t ≤ length z → given i ≡ told (externalized place (layers t)) →
+    made ≡ over (externalized place (layers t)) z → externalized place (layers t) ≡ given (layers (take (length t) made))
 unfolding over
-copied t z made place i r whole room a c d =
-    let u = told-given (externalized place (layers t)) i (rw c at a) in
+copied t z made place i whole room a d =
+    let u = told-given (externalized place (layers t)) i a in
     by-type u.type u.made
   where
     by-type : (b : List Layer) → externalized place (layers t) ≡ given b → externalized place (layers t) ≡ given (layers (take (length t) made))
@@ -71,10 +72,6 @@ copied t z made place i r whole room a c d =
         let w : made ≡ written (spelled b) z = d ∙ rw k in
         let v : made ≡ spelled b ++ drop (length (spelled b)) z = w ∙ fits (spelled b) z (omega arith) in
         k ∙ rw (v, take_at (spelled b) (drop (length (spelled b)) z) (length t) n, layers-spelled b)
-
-module _ (t made : List ℕ) (w : Whole t) (e : length made ≡ 48) where
-  pub part_length : length t ≡ length (take (length t) made)
-  part_length = sym (length-take-le (length t) made (omega (arith, w.few)))
 
 under_none : (o : Answer (List Layer)) → under [] o ≡ o
 unfolding under
@@ -92,27 +89,31 @@ module _ (ws : List ℕ) (k : ℕ) (e : k ≡ outer (layers ws)) where
   unfolding layers fixed_extern
   as-any n = rw (← e, ne_eqb k kind.arraylike n) (under_none (externalize 0 (layers ws)))
 
--- both, by the context and the flag
-module _ (external : Bool) (context : ℕ) (a : List Layer) where
-  pub no-context : (room : ℕ) → member < context → delivered room (fixed external context a) ≡ refused 5 0
-  unfolding delivered fixed
-  no-context room h = rw (lt-ltb member context h)
+small : (c : Context) → number_of c ≤ member
+small of-context.Const = omega arith
+small of-context.Parameter = omega arith
+small of-context.Returned = omega arith
+small of-context.Member = omega arith
 
-  module _ (h : context ≤ member) where
-    pub for-extern : external ≡ true → fixed_extern a ≡ fixed external context a
-    unfolding fixed
-    for-extern e = rw (le-ltb member context h, e)
-
-    pub for-plain : external ≡ false → given (fixed_plain context a) ≡ fixed external context a
-    unfolding fixed
-    for-plain e = rw (le-ltb member context h, e)
-
--- for any words
-module _ (t : List ℕ) (external : Bool) (context room : ℕ) (r : Checked) (e : of_checked r ≡ check_of t) where
-  pub unchecked : (n p : ℕ) → r ≡ Refused n p → fixed_type t external context room ≡ refused n p
+-- for any words: the first refusal, or both ways of fixing
+module _ (t : List ℕ) (external : Bool) (context room : ℕ) where
+  pub unchecked : (n p : ℕ) → refused n p ≡ check_of t → fixed_type t external context room ≡ refused n p
   unfolding fixed_type
-  unchecked n p h = rw (← e, h)
+  unchecked n p e = rw (← e)
 
-  pub checked : (i : ℕ) → r ≡ Good i → delivered room (fixed external context (layers t)) ≡ fixed_type t external context room
-  unfolding fixed_type
-  checked i h = rw (← e, h)
+  module _ (i : ℕ) (e : given i ≡ check_of t) where
+    pub no-context : member < context → fixed_type t external context room ≡ refused 5 0
+    unfolding fixed_type delivered fixed
+    no-context h = rw (← e, lt-ltb member context h)
+
+    module _ (c : Context) (h : number_of c ≡ context) where
+      known : ltb member context ≡ false
+      known = le-ltb member context (rw h at (small c))
+
+      pub for-extern : external ≡ true → delivered room (fixed_extern (layers t)) ≡ fixed_type t external context room
+      unfolding fixed_type fixed
+      for-extern f = rw (← e, known, f)
+
+      pub for-plain : external ≡ false → delivered room (given (fixed_plain (number_of c) (layers t))) ≡ fixed_type t external context room
+      unfolding fixed_type fixed
+      for-plain f = rw (h, ← e, known, f)

@@ -1,24 +1,40 @@
+use Rattle.std.proofs.lemmas.Result.{err_from_is_err_and}
 use Rattle.extern_fixing.specs.Answers.{fixed_answer, fixed_buffer}
 use Rattle.write_type.proofs.Outcomes.{carried, stays}
-use Rattle.extern_fixing.proofs.Fixes.{checked-whole, unchecked, checked}
+use Rattle.extern_fixing.proofs.Fixes.{checked-whole, unchecked, no-context, for-extern, for-plain}
 use Rattle.extern_fixing.proofs.flags.fix_type_for_flags.Goals as goal
 
-pub fix_checked-requires : goal.fix_checked-requires
-unfolding fixed_answer fixed_buffer
-fix_checked-requires c = checked-whole _ _ _ c.check_type.ensures c.in-Good.is
+pub fix_external-requires : goal.fix_external-requires
+fix_external-requires c = checked-whole _ _ c.in_ok-check_type.ensures
 
-pub returns-in-Refused-clause-answer : goal.returns-in-Refused-clause-answer
+pub returns-in_err-check_type-clause-answer : goal.returns-in_err-check_type-clause-answer
 unfolding fixed_answer fixed_buffer
-returns-in-Refused-clause-answer c = (stays _ _ _ c.args.out.now (unchecked _ _ _ _ _ c.check_type.ensures _ _ c.in-Refused.is)).0
+returns-in_err-check_type-clause-answer c = let p = err_from_is_err_and c.from_residual.result c.from_residual.ensures.1 in rw (p.1, p.2) (stays _ _ _ c.args.out.now (unchecked _ _ _ _ _ _ c.in_err-check_type.ensures)).0
 
-pub returns-in-Refused-clause-buffer : goal.returns-in-Refused-clause-buffer
+pub returns-in_err-check_type-clause-buffer : goal.returns-in_err-check_type-clause-buffer
 unfolding fixed_answer fixed_buffer
-returns-in-Refused-clause-buffer c = (stays _ _ _ c.args.out.now (unchecked _ _ _ _ _ c.check_type.ensures _ _ c.in-Refused.is)).1
+returns-in_err-check_type-clause-buffer c = (stays _ _ _ c.args.out.now (unchecked _ _ _ _ _ _ c.in_err-check_type.ensures)).1
 
-pub returns-in-Good-clause-answer : goal.returns-in-Good-clause-answer
+pub returns-in_err-context-clause-answer : goal.returns-in_err-context-clause-answer
 unfolding fixed_answer fixed_buffer
-returns-in-Good-clause-answer c = (carried _ _ _ _ _ (checked _ _ _ _ _ c.check_type.ensures _ c.in-Good.is) c.fix_checked.ensures).0
+returns-in_err-context-clause-answer c = let p = err_from_is_err_and c.from_residual-in_err-context.result c.from_residual-in_err-context.ensures.1 in rw (p.1, p.2, c.in_err-context.ensures.0) (stays _ _ _ c.args.out.now (no-context _ _ _ _ _ c.in_ok-check_type.ensures c.in_err-context.ensures.1)).0
 
-pub returns-in-Good-clause-buffer : goal.returns-in-Good-clause-buffer
+pub returns-in_err-context-clause-buffer : goal.returns-in_err-context-clause-buffer
 unfolding fixed_answer fixed_buffer
-returns-in-Good-clause-buffer c = (carried _ _ _ _ _ (checked _ _ _ _ _ c.check_type.ensures _ c.in-Good.is) c.fix_checked.ensures).1
+returns-in_err-context-clause-buffer c = (stays _ _ _ c.args.out.now (no-context _ _ _ _ _ c.in_ok-check_type.ensures c.in_err-context.ensures.1)).1
+
+pub returns-then-external-clause-answer : goal.returns-then-external-clause-answer
+unfolding fixed_answer fixed_buffer
+returns-then-external-clause-answer c = (carried _ _ _ _ _ (for-extern _ _ _ _ _ c.in_ok-check_type.ensures _ c.in_ok-context.ensures c.if-external.true) c.fix_external.ensures).0
+
+pub returns-then-external-clause-buffer : goal.returns-then-external-clause-buffer
+unfolding fixed_answer fixed_buffer
+returns-then-external-clause-buffer c = (carried _ _ _ _ _ (for-extern _ _ _ _ _ c.in_ok-check_type.ensures _ c.in_ok-context.ensures c.if-external.true) c.fix_external.ensures).1
+
+pub returns-else-external-clause-answer : goal.returns-else-external-clause-answer
+unfolding fixed_answer fixed_buffer
+returns-else-external-clause-answer c = (carried _ _ _ _ _ (for-plain _ _ _ _ _ c.in_ok-check_type.ensures _ c.in_ok-context.ensures c.if-external.false) c.fix_plain.ensures).0
+
+pub returns-else-external-clause-buffer : goal.returns-else-external-clause-buffer
+unfolding fixed_answer fixed_buffer
+returns-else-external-clause-buffer c = (carried _ _ _ _ _ (for-plain _ _ _ _ _ c.in_ok-check_type.ensures _ c.in_ok-context.ensures c.if-external.false) c.fix_plain.ensures).1
