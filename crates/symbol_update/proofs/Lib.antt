@@ -1,5 +1,5 @@
 -- What the proofs of several functions use.
-pub mod Outcomes
+pub mod Told
 pub mod Cases
 pub mod Theorems
 pub mod Single

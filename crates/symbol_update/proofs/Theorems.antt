@@ -25,7 +25,7 @@ use Rattle.symbol_update_rule.proofs.Known.{Knows, known}
 use Rattle.symbol_update_rule.specs.Line as line
 use Rattle.symbol_update_rule.specs.Line.{Line}
 use Rattle.symbol_update.specs.Update.{answer_by, record_by, words_by, line_at, updated, words_after}
-use Rattle.symbol_update.specs.declared.update_record.Updated.{Updated}
+use Rattle.symbol_update.specs.Updated.{Updated}
 
 -- What was written is what is stored.
 pub stored-written : (offered ws : List ℕ) → length offered ≤ length ws → length offered % 3 ≡ 0 →

@@ -1,1 +1,3 @@
+pub mod Updated
 pub mod Update
+pub mod AsCoded

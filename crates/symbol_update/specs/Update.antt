@@ -12,7 +12,7 @@ use Rattle.write_answer.specs.Flat.{accepted, not_accepted}
 use Rattle.symbol_update_rule.specs.Rule.{line_of}
 use Rattle.symbol_update_rule.specs.Line as line
 use Rattle.symbol_update_rule.specs.Line.{Line}
-use Rattle.symbol_update.specs.declared.update_record.Updated.{Updated}
+use Rattle.symbol_update.specs.Updated.{Updated}
 
 -- What each line answers. "Every refusal returns its number and a place (0 unless named)".
 abbrev pub answer_by : Line → Answer

@@ -3,4 +3,4 @@
 
 mod update_record;
 
-pub use update_record::{Updated, typed, update};
+pub use update_record::{typed, update};

@@ -1,23 +1,22 @@
 ghost use Rattle.std.specs.Prelude.{◌≡◌};
 ghost use Rattle.symbol_update.specs.Update as rules;
+ghost use Rattle.symbol_update.specs.AsCoded.{told};
 
-use symbol_columns::{Symbol, stored_words};
+use symbol_columns::{Identifier, Symbol, stored_words};
 use symbol_update_rule::{Line, decide};
+use type_layers::Refused;
 use type_numbers::{Effect, Refusal, State};
-use write_answer::{Answer, accepted, refused};
 use write_words::write_words;
 
-// What an update leaves in the record, and its answer.
-#[derive(Clone, Copy)]
-pub struct Updated {
-    pub symbol: Symbol,
-    pub answer: Answer,
-}
-
 // A record of a type that was written.
-pub fn typed(id: u32, authority: bool, place: u64, offered: &[u64]) -> Symbol
-    ensures { result ≡ rules.typed id authority place offered.now }
+pub fn typed(name: Identifier, offered: &[u64]) -> Symbol
+    ensures { result ≡ rules.typed name.id name.authority name.place offered.now }
 {
+    let Identifier {
+        id,
+        authority,
+        place,
+    } = name;
     Symbol {
         id,
         authority,
@@ -29,54 +28,45 @@ pub fn typed(id: u32, authority: bool, place: u64, offered: &[u64]) -> Symbol
 }
 
 // Updates a record whose words are the first of those lent.
+#[tactic(auto, unfolding(crate::specs::Update::updated, crate::specs::Update::words_after))]
 pub fn update(
-    s: Symbol,
+    symbol: &mut Symbol,
     words: &mut [u64],
-    id: u32,
-    authority: bool,
-    place: u64,
+    name: Identifier,
     offered: &[u64],
-) -> Updated
-    ensures answer { result ≡ rules.updated s words.old id authority place offered.now }
-    ensures written { words.new ≡ rules.words_after s words.old authority offered.now }
+) -> Result<Effect, Refused>
+    ensures answer { told result
+        ≡ (rules.updated symbol.old words.old name.id name.authority name.place offered.now).answer }
+    ensures recorded { symbol.new
+        ≡ (rules.updated symbol.old words.old name.id name.authority name.place offered.now).symbol }
+    ensures written { words.new ≡ rules.words_after symbol.old words.old name.authority offered.now }
 {
+    let s = *symbol;
     let line = decide(
         s.state == State::POISONED,
         s.authority,
-        authority,
+        name.authority,
         stored_words(words, s.layers),
         offered,
     );
     match line {
-        Line::Poisoned => Updated {
-            symbol: s,
-            answer: accepted(Effect::KEPT),
-        },
-        Line::IllFormed => Updated {
-            symbol: s,
-            answer: refused(Refusal::ILL_FORMED, 0),
-        },
-        Line::Kept => Updated {
-            symbol: s,
-            answer: accepted(Effect::KEPT),
-        },
+        Line::Poisoned | Line::Kept => Ok(Effect::Kept),
+        Line::IllFormed => Err(Refusal::IllFormed.into()),
+        Line::Conflicting => Err(Refusal::Conflict.into()),
         Line::TypeReplaced => {
             write_words(words, offered);
-            Updated {
-                symbol: typed(s.id, s.authority, s.place, offered),
-                answer: accepted(Effect::TYPE_REPLACED),
-            }
+            let kept = Identifier {
+                id: s.id,
+                authority: s.authority,
+                place: s.place,
+            };
+            *symbol = typed(kept, offered);
+            Ok(Effect::TypeReplaced)
         }
         Line::BothReplaced => {
             write_words(words, offered);
-            Updated {
-                symbol: typed(id, authority, place, offered),
-                answer: accepted(Effect::BOTH_REPLACED),
-            }
+            *symbol = typed(name, offered);
+            Ok(Effect::BothReplaced)
         }
-        Line::Conflicting => Updated {
-            symbol: s,
-            answer: refused(Refusal::CONFLICT, 0),
-        },
     }
 }

@@ -1,28 +1,20 @@
 -- A record that stands alone: whether it is in order, and what becomes of it, by what the code tested.
 -- Assumes nothing.
-use mathlib.Core.Path.{◌≡◌, refl, sym, ap, ◌∙◌}
-use mathlib.Core.Bool.{Bool, true, false, cond, not, ◌&&◌, true≢false}
+use mathlib.Core.Path.{◌≡◌, refl}
+use mathlib.Core.Bool.{Bool, true, false, cond, not, ◌&&◌}
 use mathlib.Core.List.{List, [], ◌∷◌}
 use Prim.Native.Nat.{ℕ, ◌<◌}
 use native.Mathlib.Omega.{arith}
 use lib.Dec.{eqb, leb}
 use lib.ListN.{length, take}
 use lib.Seq.{take_all}
-use borrow.Author.Tests.{eqb-false, ne_eqb, lt-leb, not-true, not-false}
-use Rattle.type_layers.specs.Answer as paper
-use Rattle.type_layers.specs.Answer.{given, refused, of_checked, next, is_given}
-use Rattle.type_checks.proofs.Refusals.{passed}
+use borrow.Author.Tests.{eqb-false, ne_eqb, lt-leb}
+use Rattle.type_layers.specs.Answer.{is_given}
 use Rattle.type_checks.specs.Check.{check_of}
-use Rattle.type_layers.specs.declared.answers.Checked.{Checked}
-use Rattle.type_layers.specs.declared.answers.Checked.TheVariants.{Good, Refused}
 use Rattle.symbol_order.specs.Order.{known_states, all_free, taken_first, taken, has_id, repeats, passes, all_pass, in_order}
 use Rattle.symbol_columns.specs.declared.symbol.Symbol.{Symbol}
 use Rattle.symbol_columns.specs.StoredWords.{stored_words}
-use Rattle.write_answer.specs.declared.answer.Answer.{Answer}
-use Rattle.write_answer.specs.Flat.{not_accepted, flat}
-use Rattle.symbol_update.specs.Update.{updated, words_after}
-use Rattle.symbol_update_lone.specs.Lone.{lone_in_order, lone_check, lone_updated, lone_words_after}
-use Rattle.symbol_update.specs.declared.update_record.Updated.{Updated}
+use Rattle.symbol_update_lone.specs.Lone.{lone_in_order}
 
 -- a table of one record
 module _ (s : Symbol) (ws : List ℕ) where
@@ -51,9 +43,9 @@ module _ (s : Symbol) (ws : List ℕ) where
   miscounted h = rw (one, ne_eqb (length ws) 48 h)
 
   module _ (h : length ws ≡ 48) where
-    pub poisoned-fits : s.state ≡ 2 → true ≡ lone_in_order s ws
+    pub poisoned_fits : s.state ≡ 2 → true ≡ lone_in_order s ws
     unfolding passes
-    poisoned-fits e = rw (one, h, e)
+    poisoned_fits e = rw (one, h, e)
 
     module _ (p : s.state ≡ 2 → ⊥) where
       pub not_taken : (s.state ≡ 1 → ⊥) → false ≡ lone_in_order s ws
@@ -66,59 +58,6 @@ module _ (s : Symbol) (ws : List ℕ) where
               rw (one, h, e, lt-leb s.state 2 over)
 
       module _ (t : s.state ≡ 1) where
-        pub typed-fits : (stored : List ℕ) (r : Bool) → stored ≡ stored_words s.layers ws → r ≡ is_given (check_of stored) → r ≡ lone_in_order s ws
+        pub typed_fits : (stored : List ℕ) (r : Bool) → stored ≡ stored_words s.layers ws → r ≡ is_given (check_of stored) → r ≡ lone_in_order s ws
         unfolding passes
-        typed-fits stored r q f = rw (one, h, t, take_all 48 ws (omega (arith, h)), ← q, f)
-
--- g is whether the offered words pass the checks
-module _ (s : Symbol) (ws : List ℕ) (authority : Bool) (offered : List ℕ) (g : Bool) (e : g ≡ is_given (check_of offered)) where
-  module _ (f : not g ≡ true) (x : Checked) (q : of_checked x ≡ check_of offered) where
-    pub answers-refused : (id place : ℕ) (a : Answer) → a ≡ flat (of_checked x) →
-        record { symbol = s; answer = a } ≡ lone_updated s ws id authority place offered
-    unfolding lone_updated lone_check flat
-    answers-refused id place a h = by-checks x q h
-      where
-        by-checks : (y : Checked) → of_checked y ≡ check_of offered → a ≡ flat (of_checked y) →
-            record { symbol = s; answer = a } ≡ lone_updated s ws id authority place offered
-        by-checks (Good n) p r = absurd (true≢false (ap is_given p ∙ (sym e ∙ not-true g f)))
-        by-checks (Refused n m) p r = rw (← p, r)
-
-    pub keeps-refused : ws ≡ lone_words_after s ws authority offered
-    unfolding lone_words_after lone_check
-    keeps-refused = by-checks x q
-      where
-        by-checks : (y : Checked) → of_checked y ≡ check_of offered → ws ≡ lone_words_after s ws authority offered
-        by-checks (Good n) p = absurd (true≢false (ap is_given p ∙ (sym e ∙ not-true g f)))
-        by-checks (Refused n m) p = rw (← p)
-
-  module _ (f : not g ≡ false) (b : Bool) (i : b ≡ lone_in_order s ws) where
-    follows : (c : paper.Answer ℕ) → next (check_of offered) c ≡ c
-    follows c = passed (check_of offered) c (sym e ∙ not-false g f)
-
-    module _ (o : not b ≡ true) where
-      disordered : lone_check s ws offered ≡ refused 12 0
-      unfolding lone_check
-      disordered = follows _ ∙ rw (← i, not-true b o)
-
-      pub answers-disordered : (id place : ℕ) (a : Answer) → a ≡ not_accepted 12 0 →
-          record { symbol = s; answer = a } ≡ lone_updated s ws id authority place offered
-      unfolding lone_updated
-      answers-disordered id place a q = rw (disordered, q)
-
-      pub keeps-disordered : ws ≡ lone_words_after s ws authority offered
-      unfolding lone_words_after
-      keeps-disordered = rw disordered
-
-    module _ (o : not b ≡ false) where
-      ordered : lone_check s ws offered ≡ given 0
-      unfolding lone_check
-      ordered = follows _ ∙ rw (← i, not-false b o)
-
-      pub answers-updated : (id place : ℕ) (u : Updated) → u ≡ updated s ws id authority place offered →
-          u ≡ lone_updated s ws id authority place offered
-      unfolding lone_updated
-      answers-updated id place u q = rw (ordered, q)
-
-      pub leaves-updated : (after : List ℕ) → after ≡ words_after s ws authority offered → after ≡ lone_words_after s ws authority offered
-      unfolding lone_words_after
-      leaves-updated after q = rw (ordered, q)
+        typed_fits stored r q f = rw (one, h, t, take_all 48 ws (omega (arith, h)), ← q, f)

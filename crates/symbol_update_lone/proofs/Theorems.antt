@@ -5,7 +5,7 @@ use mathlib.Core.Bool.{Bool, true, false, cond, not, ◌&&◌, ◌||◌, false�
 use mathlib.Core.List.{List}
 use Prim.Native.Nat.{ℕ, ◌/◌, ◌%◌, ◌≤◌}
 use native.Mathlib.Omega.{arith}
-use lib.Dec.{T, eqb, leb}
+use lib.Dec.{eqb, leb}
 use lib.ListN.{length, take}
 use lib.Seq.{take_all}
 use borrow.Author.Tests.{eqb-true}
@@ -20,7 +20,7 @@ use Rattle.symbol_order.specs.Order as order
 use Rattle.symbol_columns.specs.declared.symbol.Symbol.{Symbol}
 use Rattle.write_answer.specs.declared.answer.Answer.{Answer}
 use Rattle.symbol_update.specs.Update.{typed, updated, words_after}
-use Rattle.symbol_update.specs.declared.update_record.Updated.{Updated}
+use Rattle.symbol_update.specs.Updated.{Updated}
 use Rattle.symbol_update.proofs.Cases.{by_lines}
 use Rattle.symbol_update.proofs.Theorems.{stored-written, unchanged}
 use Rattle.symbol_update_lone.specs.Lone.{lone_in_order, lone_check, unless_refused, lone_updated, kept_where_refused, lone_words_after}

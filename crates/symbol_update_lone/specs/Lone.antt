@@ -10,7 +10,7 @@ use Rattle.write_answer.specs.declared.answer.Answer.{Answer}
 use Rattle.symbol_columns.specs.declared.symbol.Symbol.{Symbol}
 use Rattle.write_answer.specs.Flat.{not_accepted}
 use Rattle.symbol_update.specs.Update.{updated, words_after}
-use Rattle.symbol_update.specs.declared.update_record.Updated.{Updated}
+use Rattle.symbol_update.specs.Updated.{Updated}
 
 unfoldable pub lone_in_order : Symbol → List ℕ → Bool
 lone_in_order s ws = in_order (s ∷ []) ws && not (free s)

@@ -1,76 +1,62 @@
 ghost use Rattle.std.specs.Prelude.{◌≡◌};
+ghost use Rattle.symbol_update.specs.AsCoded.{told};
 ghost use Rattle.symbol_update_lone.specs.Lone as rules;
 
-use symbol_columns::{Symbol, stored_words};
-use symbol_update::{Updated, update};
+use symbol_columns::{Identifier, Symbol, stored_words};
+use symbol_update::update;
 use type_checks::is_type;
 use type_first_refusal::check_type;
+use type_layers::Refused;
 use type_numbers::{Effect, Limit, Refusal, State};
-use write_answer::{Answer, checked, refused};
+use write_answer::{Answer, accepted, refused};
 
 // Whether a taken record with its words is a table of one that is in order.
-fn in_order(s: Symbol, words: &[u64]) -> bool
-    ensures { result ≡ rules.lone_in_order s words.now }
+#[tactic(auto, using(crate::proofs::Alone::miscounted, crate::proofs::Alone::poisoned_fits, crate::proofs::Alone::not_taken, crate::proofs::Alone::typed_fits))]
+fn in_order(symbol: Symbol, words: &[u64]) -> bool
+    ensures { result ≡ rules.lone_in_order symbol words.now }
 {
-    if words.len() != Limit::SLOT_WORDS {
-        return false;
-    }
-    let state = s.state;
-    if state == State::POISONED {
-        return true;
-    }
-    if state != State::TYPED {
-        return false;
-    }
-    is_type(stored_words(words, s.layers))
+    words.len() == Limit::SLOT_WORDS
+        && match symbol.state {
+            State::POISONED => true,
+            State::TYPED => is_type(stored_words(words, symbol.layers)),
+            _ => false,
+        }
 }
 
 // Updates a record that stands alone, with its 48 words.
+#[tactic(auto, unfolding(crate::specs::Lone::lone_updated, crate::specs::Lone::lone_words_after, crate::specs::Lone::lone_check))]
 pub fn update_lone(
-    s: Symbol,
+    symbol: &mut Symbol,
     words: &mut [u64],
-    id: u32,
-    authority: bool,
-    place: u64,
+    name: Identifier,
     offered: &[u64],
-) -> Updated
-    ensures { (result ≡ rules.lone_updated s words.old id authority place offered.now)
-        × (words.new ≡ rules.lone_words_after s words.old authority offered.now) }
+) -> Result<Effect, Refused>
+    ensures answer { told result
+        ≡ (rules.lone_updated symbol.old words.old name.id name.authority name.place offered.now).answer }
+    ensures recorded { symbol.new
+        ≡ (rules.lone_updated symbol.old words.old name.id name.authority name.place offered.now).symbol }
+    ensures written { words.new ≡ rules.lone_words_after symbol.old words.old name.authority offered.now }
 {
-    if !is_type(offered) {
-        return Updated {
-            symbol: s,
-            answer: checked(check_type(offered)),
-        };
+    check_type(offered)?;
+    if !in_order(*symbol, words) {
+        return Err(Refusal::TableNotInOrder.into());
     }
-    if !in_order(s, words) {
-        return Updated {
-            symbol: s,
-            answer: refused(Refusal::TABLE_NOT_IN_ORDER, 0),
-        };
-    }
-    update(s, words, id, authority, place, offered)
+    update(symbol, words, name, offered)
 }
 
-// The same, of a symbol that is lent. Where nothing changes nothing is stored.
+// The same, answered as C has it. Where nothing changes nothing is stored.
 pub fn do_update_symbol(
     symbol: &mut Symbol,
     words: &mut [u64],
-    id: u32,
-    authority: bool,
-    place: u64,
+    name: Identifier,
     offered: &[u64],
 ) -> Answer
     ensures { rules.LoneBecomes
-        symbol.old words.old id authority place offered.now
+        symbol.old words.old name.id name.authority name.place offered.now
         result symbol.new words.new }
 {
-    let s = *symbol;
-    let u = update_lone(s, words, id, authority, place, offered);
-    let a = u.answer;
-    if (a.refusal != 0) | (a.value == Effect::KEPT) {
-        return a;
+    match update_lone(symbol, words, name, offered) {
+        Ok(effect) => accepted(effect.into()),
+        Err(e) => refused(e),
     }
-    *symbol = u.symbol;
-    a
 }
