@@ -1,38 +1,44 @@
 -- A role, by what the code found.
 -- Assumes nothing.
-use mathlib.Core.Path.{◌≡◌, sym, ◌∙◌}
-use mathlib.Core.Bool.{Bool, ◌&&◌}
+use mathlib.Core.Path.{◌≡◌, sym, ap, ◌∙◌}
+use mathlib.Core.Bool.{Bool, true, false}
 use mathlib.Core.List.{List}
 use Prim.Native.Nat.{ℕ, ◌<◌}
-use lib.ListN.{get_or}
+use lib.ListN.{get_or, get_or-map}
+use Rattle.std.specs.Prelude.{map, Result, Ok}
+use Rattle.type_layers.specs.declared.answers.Refused.{Refused}
 use Rattle.type_numbers.specs.Kind as kind
 use Rattle.type_layers.specs.Layers.{Layer, layers, outer}
-use Rattle.type_layers.specs.Answer.{Answer, of_checked, is_given}
-use Rattle.type_layers.specs.declared.answers.Checked.{Checked}
-use Rattle.type_layers.specs.declared.answers.Checked.TheVariants.{Good}
+use Rattle.type_layers.specs.Answer.{of_result, is_given}
 use Rattle.type_checks.specs.Check.{check_of}
 use Rattle.type_checks.proofs.Accepted.{accepted-kind}
-use Rattle.type_size_and_depth.specs.AsCoded.{of_size}
 use Rattle.type_size_and_depth.specs.Known.{known_size}
-use Rattle.type_size_and_depth.specs.declared.answers.Size.{Size}
 use Rattle.type_wellformed.specs.WellFormed.{well_formed}
 use Rattle.type_roles.specs.Roles.{can_be}
 use Rattle.type_roles.specs.Grid.{says, entry_of, grid, size_test}
+use Rattle.type_roles.specs.AsCoded.{value_of}
+use Rattle.type_roles.specs.declared.grid.Entry.{Entry}
 use Rattle.type_roles.specs.declared.role.Role.{Role}
 use Rattle.type_roles.proofs.Theorems.{row_number, in-grid, by-grid}
 
-pub known-told : (x y : Size) (a : Answer ℕ) (r : Bool) → of_size x ≡ a → x ≡ y → r ≡ is_given (of_size y) → r ≡ is_given a
-known-told x y a r e h q = rw (← e, h) q
+-- what is found in row i of the code's grid, where that is the row of the role
+pub looked_up : (p q : Role) (rows : List (List Entry)) (ds : List Entry) (i k r d : ℕ) → map (map value_of) rows ≡ grid → p ≡ q → i ≡ row_number q →
+    k < kind.none → r ≡ get_or (map value_of (get_or rows i ds)) k d → r ≡ entry_of p k
+looked_up p q rows ds i k r d e f g h j =
+    let row : get_or grid i (map value_of ds) ≡ map value_of (get_or rows i ds) =
+    ap (λ (rs : List (List ℕ)). get_or rs i (map value_of ds)) (sym e) ∙ get_or-map (map value_of) rows i ds in
+    rw (j, ← row, f, g) (in-grid q k d (map value_of ds) h)
 
 -- the outer kind of words that pass has an entry in each row
-pub has-entry : (ws : List ℕ) (x : Checked) (n k : ℕ) → of_checked x ≡ check_of ws → x ≡ Good n → k ≡ outer (layers ws) → k < kind.none
-has-entry ws x n k e h i = rw i (accepted-kind ws n (sym e ∙ (rw h)))
+pub has_entry : (ws : List ℕ) (x : Result ℕ Refused) (n k : ℕ) → of_result x ≡ check_of ws → x ≡ Ok n → k ≡ outer (layers ws) → k < kind.none
+has_entry ws x n k e h i = rw i (accepted-kind ws n (sym e ∙ (rw h)))
 
--- what is found in row i of the code's grid, where that is the row of the role
-pub looked-up : (p q : Role) (rows : List (List ℕ)) (ds : List ℕ) (i k r d : ℕ) → rows ≡ grid → p ≡ q → i ≡ row_number q →
-    k < kind.none → r ≡ get_or (get_or rows i ds) k d → r ≡ entry_of p k
-looked-up p q rows ds i k r d e f g h j = rw (j, e, f, g) (in-grid q k d ds h)
+-- a role, by what its entry says of the type, and by the size test
+module _ (p : Role) (a : List Layer) (k e : ℕ) (f : Bool) (g : k ≡ outer a) (h : e ≡ entry_of p k) (i : f ≡ says e (well_formed a)) where
+  pub told_no : f ≡ false → f ≡ can_be p a
+  told_no j = j ∙ (rw (← by-grid p a, ← g, ← h, ← i, j))
 
-pub role-told : (p : Role) (a : List Layer) (k e : ℕ) (f g : Bool) → k ≡ outer a → e ≡ entry_of p k →
-    f ≡ says e (well_formed a) → g ≡ size_test p (is_given (known_size a)) → (f && g) ≡ can_be p a
-role-told p a k e f g h i j l = rw (j, l, i, h) (by-grid p a)
+  pub told_yes : f ≡ true → (t : Bool) → t ≡ size_test p (is_given (known_size a)) → t ≡ can_be p a
+  told_yes j t l = l ∙ (rw (← by-grid p a, ← g, ← h, ← i, j))
+
+pub ruleset told = (has_entry, told_no, told_yes)

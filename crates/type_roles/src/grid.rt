@@ -1,22 +1,30 @@
-ghost use Rattle.std.specs.Prelude.{◌≡◌, ◌<◌, get_or};
+ghost use Rattle.std.specs.Prelude.{◌≡◌, ◌<◌, get_or, map};
 ghost use Rattle.type_numbers.specs.Kind as kind;
 ghost use Rattle.type_layers.specs.Layers.{layers};
 ghost use Rattle.type_wellformed.specs.WellFormed.{well_formed};
 ghost use Rattle.type_roles.specs.Grid as rules;
+ghost use Rattle.type_roles.specs.AsCoded.{value_of};
 
 use crate::role::Role;
 use type_wellformed::is_wellformed;
 
-// The three values of an entry: refused, allowed, allowed when the type is well formed.
-const R: u8 = 0;
+// The three values of an entry.
+#[derive(Clone, Copy)]
+pub(crate) enum Entry {
+    Refused,
+    Allowed,
+    AllowedWhenWellFormed,
+}
 
-const A: u8 = 1;
+const R: Entry = Entry::Refused;
 
-const W: u8 = 2;
+const A: Entry = Entry::Allowed;
+
+const W: Entry = Entry::AllowedWhenWellFormed;
 
 // The roles by the outer kinds, which stand in the order of their numbers; some names are cut.
 #[rattlefmt::skip]
-const GRID: [[u8; 25]; 7] = [
+const GRID: [[Entry; 25]; 7] = [
     // Void I8 I16 I32 I64 I128 U8 U16 U32 U64 U128 Usize Char8 Bool Array Named Slice SlPtr Endless Alike Struct Word Unres Ptr View
     [  R,   A, A,  A,  A,  A,   A, A,  A,  A,  A,   A,    A,    A,   A,    A,    R,    R,    R,      R,    A,     A,   A,    A,  R], // can_be_sized
     [  R,   W, W,  W,  W,  W,   W, W,  W,  W,  W,   W,    W,    W,   W,    W,    R,    R,    R,      R,    W,     W,   W,    W,  R], // can_be_struct_member
@@ -28,24 +36,25 @@ const GRID: [[u8; 25]; 7] = [
 ];
 
 // The whole grid. Its contract is the one test of it: all its entries are what the rules say.
-fn grid() -> [[u8; 25]; 7]
-    ensures { result ≡ rules.grid }
+fn grid() -> [[Entry; 25]; 7]
+    ensures { map (map value_of) result ≡ rules.grid }
 {
     GRID
 }
 
-fn under(k: u64, row: [u8; 25]) -> u8
+fn under(k: u64, row: [Entry; 25]) -> Entry
     requires { k < kind.none }
-    ensures { result ≡ get_or row k 0 }
+    ensures { value_of result ≡ get_or (map value_of row) k 0 }
 {
     row[k as usize]
 }
 
 // The entry of a role under a kind. A constant is written to the stack where it is used. So that this is one row each time,
 // each arm names its own, and what nobody reads the compiler drops; with the role as an index it would be the whole grid.
-pub(crate) fn entry_of(role: Role, k: u64) -> u8
+#[tactic(auto, using(crate::proofs::Told::looked_up))]
+pub(crate) fn entry_of(role: Role, k: u64) -> Entry
     requires { k < kind.none }
-    ensures { result ≡ rules.entry_of role k }
+    ensures { value_of result ≡ rules.entry_of role k }
 {
     let rows = grid();
     match role {
@@ -60,14 +69,12 @@ pub(crate) fn entry_of(role: Role, k: u64) -> u8
 }
 
 // What an entry says of a type; whether that is well formed is asked only where the entry does not tell.
-pub(crate) fn says(entry: u8, a: &[u64]) -> bool
-    ensures { result ≡ rules.says entry (well_formed (layers a.now)) }
+pub(crate) fn says(entry: Entry, a: &[u64]) -> bool
+    ensures { result ≡ rules.says (value_of entry) (well_formed (layers a.now)) }
 {
-    if entry == R {
-        return false;
+    match entry {
+        Entry::Refused => false,
+        Entry::Allowed => true,
+        Entry::AllowedWhenWellFormed => is_wellformed(a),
     }
-    if entry == A {
-        return true;
-    }
-    is_wellformed(a)
 }

@@ -1,5 +1,5 @@
 // What a type can be used as.
-#[derive(Clone, Copy)]
+#[derive(Clone, Copy, Debug, PartialEq, Eq)]
 pub enum Role {
     Sized,
     StructMember,
