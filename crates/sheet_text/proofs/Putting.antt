@@ -3,14 +3,13 @@
 use mathlib.Core.Path.{◌≡◌, refl, sym, ◌∙◌}
 use mathlib.Core.Bool.{Bool, true, false, cond}
 use mathlib.Core.List.{List, [], ◌∷◌, ◌++◌, append_assoc, append-nil}
-use Prim.Native.Nat.{ℕ, ◌+◌, ◌-◌, ◌/◌, ◌%◌, ◌≤◌, ◌<◌}
+use Prim.Native.Nat.{ℕ, ◌+◌, ◌/◌, ◌%◌, ◌≤◌}
 use native.Mathlib.Nat.{add-zero}
 use native.Mathlib.Omega.{arith}
-use native.Mathlib.Numerals.{add-one}
 use lib.Dec.{ltb}
-use lib.ListN.{length, take, drop, set, get_or, length-append, length-drop, take-append-drop}
-use lib.Seq.{take_at, drop_at, drop-drop, take-length, length-take-le, paste, paste-zero, paste-suc, length-paste}
-use borrow.Author.Tests.{lt-ltb, le-ltb, le-leb, lt-leb}
+use lib.ListN.{length, take, drop, length-append, length-drop, take-append-drop}
+use lib.Seq.{take_at, drop_at, drop-drop, length-take-le}
+use borrow.Author.Tests.{le-leb}
 use Rattle.sheet_text.specs.AsCoded.{put_at, fits, put_in, behind}
 use Rattle.sheet_text.specs.Decimal.{decimal}
 
@@ -65,83 +64,22 @@ module _ (at : ℕ) (t l : List ℕ) where
       let f : fits at t l ≡ true = le-leb (at + length t) (length l) h in
       (rw f at d.0, rw f at d.1)
 
-  pub put-to : at + length t ≤ length l → (to : ℕ) → to ≡ at + length t → to ≡ behind at t l
-  unfolding behind
-  put-to h to e = rw (le-leb (at + length t) (length l) h) e
-
-  pub put-in : at + length t ≤ length l → (m : List ℕ) → m ≡ put_at at t l → m ≡ put_in at t l
-  unfolding put_in
-  put-in h m e = rw (le-leb (at + length t) (length l) h) e
-
-  pub kept-to : length l < at + length t → at ≡ behind at t l
-  unfolding behind
-  kept-to h = rw (lt-leb (at + length t) (length l) h)
-
-  pub kept_in : length l < at + length t → l ≡ put_in at t l
-  unfolding put_in
-  kept_in h = rw (lt-leb (at + length t) (length l) h)
-
-pub nothing-did : (at : ℕ) (l : List ℕ) → Did at [] l at l
-unfolding behind put_in
-nothing-did at l = by-room (fits at [] l) (nothing_put at l)
+-- no bytes are put anywhere
+pub nothing_behind : (at : ℕ) (l : List ℕ) → behind at [] l ≡ at
+unfolding behind
+nothing_behind at l = by-room (fits at [] l)
   where
-    by-room : (f : Bool) → Put at [] l at l → (at ≡ cond f (at + 0) at) × (l ≡ cond f (put_at at [] l) l)
-    by-room true p = p
-    by-room false p = (refl, refl)
+    by-room : (f : Bool) → cond f (at + 0) at ≡ at
+    by-room true = add-zero at
+    by-room false = refl
 
--- the bytes of a run, one by one
-pub record Copied (l bs : List ℕ) (at : ℕ) (m : List ℕ) (i : ℕ) : Type 0 where
-  pub room : at + length bs ≤ length l
-  pub within : i ≤ length bs
-  pub same : length m ≡ length l
-  pub is : m ≡ paste l at bs i
-
-module _ (l bs : List ℕ) (at : ℕ) where
-  pub past_end : length l < at → Did at bs l at l
-  past_end h = (kept-to at bs l (omega arith), kept_in at bs l (omega arith))
-
-  module _ (h : at ≤ length l) where
-    pub too_long : length l - at < length bs → Did at bs l at l
-    too_long k = (kept-to at bs l (omega arith), kept_in at bs l (omega arith))
-
-    pub copy_begin : length bs ≤ length l - at → Copied l bs at l 0
-    copy_begin k = record { room = omega arith; within = omega arith; same = refl; is = paste-zero l at bs }
-
-  module _ (m : List ℕ) (i : ℕ) (p : Copied l bs at m i) where
-    pub inside : i < length bs → at + i < length m
-    inside k = omega (arith, p.same, p.room)
-
-    pub copy_more : i < length bs → Copied l bs at (set m (at + i) (get_or bs i 0)) (i + 1)
-    copy_more k =
-        let e : set m (at + i) (get_or bs i 0) ≡ paste l at bs (i + 1) =
-        rw (p.is, add-one) (paste-suc l at bs i 0 (omega (arith, p.room)) k) in
-        record {
-          room = p.room;
-          within = omega arith;
-          same = rw e (length-paste l at bs (i + 1) (omega (arith, p.room)) (omega arith));
-          is = e;
-        }
-
-    module _ (k : length bs ≤ i) where
-      pub copied : Did at bs l (at + i) m
-      unfolding put_at
-      copied =
-          let n : i ≡ length bs = omega (arith, p.within) in
-          (put-to at bs l p.room (at + i) (rw n refl), put-in at bs l p.room m (p.is ∙ rw (n, take-length)))
-
--- a number's digits
-module _ (at n : ℕ) (l : List ℕ) where
-  pub one-digit : n < 10 → (to : ℕ) (m : List ℕ) → Did at ((48 + n) ∷ []) l to m → Did at (decimal n) l to m
-  unfolding decimal
-  one-digit h to m d = rw (lt-ltb n 10 h) d
-
-  pub two_digits : 10 ≤ n → n < 100 → (to : ℕ) (m : List ℕ) → Did at ((48 + n / 10) ∷ (48 + n % 10) ∷ []) l to m → Did at (decimal n) l to m
-  unfolding decimal
-  two_digits h k to m d = rw (le-ltb n 10 h, lt-ltb n 100 k) d
-
-  pub no_digit : 100 ≤ n → Did at (decimal n) l at l
-  unfolding decimal
-  no_digit h = rw (le-ltb n 10 (omega arith), le-ltb n 100 h) (nothing-did at l)
+pub nothing_in : (at : ℕ) (l : List ℕ) → put_in at [] l ≡ l
+unfolding put_in
+nothing_in at l = by-room (fits at [] l)
+  where
+    by-room : (f : Bool) → cond f (put_at at [] l) l ≡ l
+    by-room true = sym (nothing_put at l).1
+    by-room false = refl
 
 pub digits-few : (n : ℕ) → length (decimal n) ≤ 2
 unfolding decimal

@@ -3,4 +3,4 @@
 
 mod text;
 
-pub use text::{put, put_number};
+pub use text::Text;

@@ -2,35 +2,42 @@ ghost use Rattle.std.specs.Prelude.{◌≡◌};
 ghost use Rattle.sheet_text.specs.AsCoded.{put_in, behind};
 ghost use Rattle.sheet_text.specs.Decimal.{decimal};
 
-// Puts bytes at a place of a lent text; and the place behind them. Nothing where they do not fit.
-pub fn put(out: &mut [u8], at: usize, bytes: &[u8]) -> usize
-    ensures next { result ≡ behind at bytes.now out.old }
-    ensures text { out.new ≡ put_in at bytes.now out.old }
-{
-    if at > out.len() {
-        return at;
-    }
-    if bytes.len() > out.len() - at {
-        return at;
-    }
-    let mut i = 0;
-    while i < bytes.len() {
-        out[at + i] = bytes[i];
-        i += 1;
-    }
-    at + i
+// A lent text, into which bytes are put one run behind the other, and the place behind the last.
+#[derive(Drop)]
+pub struct Text<'a> {
+    pub out: &'a mut [u8],
+    pub at: usize,
 }
 
-// Puts a number below 100 in decimal.
-pub fn put_number(out: &mut [u8], at: usize, n: usize) -> usize
-    ensures next { result ≡ behind at (decimal n) out.old }
-    ensures text { out.new ≡ put_in at (decimal n) out.old }
-{
-    if n < 10 {
-        return put(out, at, &[48 + n as u8]);
+impl<'a> Text<'a> {
+    // Puts bytes at the place; nothing where they do not fit.
+    #[tactic(auto, unfolding(crate::specs::AsCoded::put_at, crate::specs::AsCoded::put_in, crate::specs::AsCoded::behind))]
+    pub fn put(&mut self, bytes: &[u8])
+        ensures same { self.new.out.ghost_name ≡ self.old.out.ghost_name }
+        ensures next { self.new.at ≡ behind self.old.at bytes.now self.old.out.now }
+        ensures text { self.new.out.now ≡ put_in self.old.at bytes.now self.old.out.now }
+    {
+        let at = self.at;
+        let Some(end) = at.checked_add(bytes.len()) else {
+            return;
+        };
+        if end <= self.out.len() {
+            self.out[at..end].copy_from_slice(bytes);
+            self.at = end;
+        }
     }
-    if n < 100 {
-        return put(out, at, &[48 + (n / 10) as u8, 48 + (n % 10) as u8]);
+
+    // Puts a number below 100 in decimal; of others nothing.
+    #[tactic(auto, using(crate::proofs::Putting::nothing_in, crate::proofs::Putting::nothing_behind), unfolding(crate::specs::Decimal::decimal))]
+    pub fn put_number(&mut self, n: usize)
+        ensures same { self.new.out.ghost_name ≡ self.old.out.ghost_name }
+        ensures next { self.new.at ≡ behind self.old.at (decimal n) self.old.out.now }
+        ensures text { self.new.out.now ≡ put_in self.old.at (decimal n) self.old.out.now }
+    {
+        match n {
+            0..10 => self.put(&[b'0' + n as u8]),
+            10..100 => self.put(&[b'0' + (n / 10) as u8, b'0' + (n % 10) as u8]),
+            _ => {}
+        }
     }
-    at
 }
