@@ -1,6 +1,7 @@
 -- The code's operations are told apart by what they are.
 -- Assumes nothing.
 use mathlib.Core.Path.{◌≡◌, refl, ap, ◌∙◌}
+use Rattle.std.specs.Prelude.{Option, Some, None}
 use Rattle.symbol_operations.specs.Act as act
 use Rattle.symbol_operations.specs.Operation as operation
 use Rattle.symbol_operations.specs.AsCoded.{of_act, of_operation, of_asked}
@@ -8,8 +9,6 @@ use Rattle.symbol_operations.specs.declared.operation.Act.{Act}
 use Rattle.symbol_operations.specs.declared.operation.Act.TheVariants as code-act
 use Rattle.symbol_operations.specs.declared.operation.Operation.{Operation}
 use Rattle.symbol_operations.specs.declared.operation.Operation.TheVariants as code
-use Rattle.symbol_operations.specs.declared.operation.Asked.{Asked}
-use Rattle.symbol_operations.specs.declared.operation.Asked.TheVariants as asked
 
 abbrev coded-act : act.Act → Act
 coded-act act.put_poison = code-act.PutPoison
@@ -44,15 +43,11 @@ is-coded code.ForwardType = refl
 pub coded_by : (o : Operation) (p : operation.Operation) → of_operation o ≡ p → o ≡ coded p
 coded_by o p e = is-coded o ∙ ap coded e
 
--- what an operation asks for, by the one that the code found
-pub asks : (o k : Operation) (x : Asked) → o ≡ k → of_asked x ≡ of_operation k → of_asked x ≡ of_operation o
-asks o k x e q = rw e q
-
 -- the same, of what it asks for
-abbrev pub coded-asked : operation.Operation → Asked
-coded-asked operation.put_nothing = asked.Nothing
-coded-asked (operation.acts a) = asked.Acts (coded-act a)
+abbrev pub coded-asked : operation.Operation → Option Act
+coded-asked operation.put_nothing = None
+coded-asked (operation.acts a) = Some (coded-act a)
 
-pub is-asked : (x : Asked) → x ≡ coded-asked (of_asked x)
-is-asked asked.Nothing = refl
-is-asked (asked.Acts a) = ap asked.Acts (is-act a)
+pub is-asked : (x : Option Act) → x ≡ coded-asked (of_asked x)
+is-asked None = refl
+is-asked (Some a) = ap Some (is-act a)

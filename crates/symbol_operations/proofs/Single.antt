@@ -3,14 +3,14 @@
 use mathlib.Core.Path.{sym, ap, ◌∙◌}
 use Rattle.type_layers.proofs.Single.{Single}
 use Rattle.symbol_operations.proofs.Coded.{coded, is-coded, coded-asked, is-asked}
-use Rattle.symbol_operations.proofs.operation.put.Kinds as put-kinds
-use Rattle.symbol_operations.proofs.operation.put.Reads as put
-use Rattle.symbol_operations.proofs.operation.forward.Kinds as forward-kinds
-use Rattle.symbol_operations.proofs.operation.forward.Reads as forward
-use Rattle.symbol_operations.proofs.operation.act_of.Kinds as act-of-kinds
-use Rattle.symbol_operations.proofs.operation.act_of.Reads as act-of
-use Rattle.symbol_operations.proofs.operation.offers_type.Kinds as offers-type-kinds
-use Rattle.symbol_operations.proofs.operation.offers_type.Reads as offers-type
+use Rattle.symbol_operations.proofs.operation.OperationFromOffer.from.Kinds as put-kinds
+use Rattle.symbol_operations.proofs.operation.OperationFromOffer.from.Reads as put
+use Rattle.symbol_operations.proofs.operation.OperationFromDeclared.from.Kinds as forward-kinds
+use Rattle.symbol_operations.proofs.operation.OperationFromDeclared.from.Reads as forward
+use Rattle.symbol_operations.proofs.operation.Operation.act.Kinds as act-of-kinds
+use Rattle.symbol_operations.proofs.operation.Operation.act.Reads as act-of
+use Rattle.symbol_operations.proofs.operation.Act.offers_type.Kinds as offers-type-kinds
+use Rattle.symbol_operations.proofs.operation.Act.offers_type.Reads as offers-type
 
 pub put-single : Single 0 put-kinds.ps put-kinds.r put.Post
 put-single κs a x y s t p q = is-coded x ∙ ap coded (p ∙ sym q) ∙ sym (is-coded y)

@@ -3,4 +3,4 @@
 
 mod operation;
 
-pub use operation::{Act, Asked, Declared, Offer, Operation, act_of, forward, offers_type, put};
+pub use operation::{Act, Declared, Offer, Operation};

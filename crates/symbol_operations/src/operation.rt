@@ -3,7 +3,7 @@ ghost use Rattle.symbol_operations.specs.Operations as rules;
 ghost use Rattle.symbol_operations.specs.AsCoded as as-coded;
 
 // What is done to a table under a name.
-#[derive(Clone, Copy)]
+#[derive(Clone, Copy, Debug, PartialEq, Eq)]
 pub enum Operation {
     PutNothing,
     PutPoison,
@@ -13,7 +13,7 @@ pub enum Operation {
 }
 
 // An operation that makes or changes a record.
-#[derive(Clone, Copy)]
+#[derive(Clone, Copy, Debug, PartialEq, Eq)]
 pub enum Act {
     PutPoison,
     PutType,
@@ -21,15 +21,8 @@ pub enum Act {
     ForwardType,
 }
 
-// What an operation asks for: nothing, or an act.
-#[derive(Clone, Copy)]
-pub enum Asked {
-    Nothing,
-    Acts(Act),
-}
-
 // What is put.
-#[derive(Clone, Copy)]
+#[derive(Clone, Copy, Debug, PartialEq, Eq)]
 pub enum Offer {
     Nothing,
     Poison,
@@ -37,50 +30,54 @@ pub enum Offer {
 }
 
 // What is declared forward.
-#[derive(Clone, Copy)]
+#[derive(Clone, Copy, Debug, PartialEq, Eq)]
 pub enum Declared {
     Poison,
     Type,
 }
 
-pub fn put(offer: Offer) -> Operation
-    ensures { as-coded.of_operation result ≡ rules.put offer }
-{
-    match offer {
-        Offer::Nothing => Operation::PutNothing,
-        Offer::Poison => Operation::PutPoison,
-        Offer::Type => Operation::PutType,
+impl From<Offer> for Operation {
+    ghost from_gives = { as-coded.Puts };
+
+    fn from(offer: Offer) -> Operation {
+        match offer {
+            Offer::Nothing => Operation::PutNothing,
+            Offer::Poison => Operation::PutPoison,
+            Offer::Type => Operation::PutType,
+        }
     }
 }
 
-pub fn forward(declared: Declared) -> Operation
-    ensures { as-coded.of_operation result ≡ rules.forward declared }
-{
-    match declared {
-        Declared::Poison => Operation::ForwardPoison,
-        Declared::Type => Operation::ForwardType,
+impl From<Declared> for Operation {
+    ghost from_gives = { as-coded.Declares };
+
+    fn from(declared: Declared) -> Operation {
+        match declared {
+            Declared::Poison => Operation::ForwardPoison,
+            Declared::Type => Operation::ForwardType,
+        }
     }
 }
 
-pub fn act_of(operation: Operation) -> Asked
-    ensures { as-coded.of_asked result ≡ as-coded.of_operation operation }
-{
-    match operation {
-        Operation::PutNothing => Asked::Nothing,
-        Operation::PutPoison => Asked::Acts(Act::PutPoison),
-        Operation::PutType => Asked::Acts(Act::PutType),
-        Operation::ForwardPoison => Asked::Acts(Act::ForwardPoison),
-        Operation::ForwardType => Asked::Acts(Act::ForwardType),
+impl Operation {
+    // The act that it asks for, if any.
+    pub fn act(self) -> Option<Act>
+        ensures { as-coded.of_asked result ≡ as-coded.of_operation self }
+    {
+        match self {
+            Operation::PutNothing => None,
+            Operation::PutPoison => Some(Act::PutPoison),
+            Operation::PutType => Some(Act::PutType),
+            Operation::ForwardPoison => Some(Act::ForwardPoison),
+            Operation::ForwardType => Some(Act::ForwardType),
+        }
     }
 }
 
-pub fn offers_type(act: Act) -> bool
-    ensures { result ≡ rules.offers_type (as-coded.of_act act) }
-{
-    match act {
-        Act::PutPoison => false,
-        Act::PutType => true,
-        Act::ForwardPoison => false,
-        Act::ForwardType => true,
+impl Act {
+    pub fn offers_type(self) -> bool
+        ensures { result ≡ rules.offers_type (as-coded.of_act self) }
+    {
+        matches!(self, Act::PutType | Act::ForwardType)
     }
 }

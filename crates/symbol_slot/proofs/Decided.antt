@@ -7,68 +7,60 @@ use Prim.Native.Nat.{ℕ, ◌≤◌, ◌<◌}
 use lib.Dec.{ltb}
 use lib.ListN.{length, get_or}
 use borrow.Author.Tests.{lt-ltb, le-ltb, ltb-true, ltb-false, not-true, not-false}
-use Rattle.type_layers.specs.Answer.{Answer, of_checked, given, nothing, refused}
-use Rattle.type_checks.specs.Check.{check_of}
-use Rattle.type_layers.specs.declared.answers.Checked.{Checked}
-use Rattle.type_layers.specs.declared.answers.Checked.TheVariants as checked
+use Rattle.std.proofs.Common.{Some, None}
+use Rattle.type_numbers.specs.Refusal.{number_of}
+use Rattle.type_numbers.specs.declared.refusal.Refusal.TheVariants.{TableNotInOrder, TableFull}
+use Rattle.type_layers.specs.Answer.{Answer, given, nothing, refused, IsUnplaced}
+use Rattle.type_layers.specs.declared.answers.Refused.{Refused}
 use Rattle.symbol_columns.specs.declared.symbol.Symbol.{Symbol}
 use Rattle.symbol_columns.specs.Record.{vacant}
 use Rattle.symbol_columns.specs.AsCoded.{read_from}
-use Rattle.symbol_search.specs.Search.{slot_for, first_free}
+use Rattle.symbol_search.specs.Search.{slot_for, first_free, among}
 use Rattle.symbol_search.specs.AsCoded.{slot_in, free_in}
 use Rattle.symbol_columns.proofs.Reading.{length-read}
-use Rattle.symbol_search.proofs.Searching.{slot_has}
+use Rattle.symbol_search.proofs.Searching.{some_among, none_among, slot_has}
 use Rattle.symbol_order.specs.Order.{in_order}
 use Rattle.symbol_order.proofs.Ordered.{Ordered, ordered, slot-there, free-there}
 use Rattle.symbol_operations.specs.Act.{Act}
-use Rattle.symbol_operations.specs.Operations.{offers_type}
 use Rattle.symbol_slot.specs.Way as way
 use Rattle.symbol_slot.specs.Way.{Way}
 use Rattle.symbol_slot.specs.Slot.{offered_check, place_of, unless, way_of}
 
--- the checks of what is offered
-module _ (a : Act) (offered : List ℕ) (r : Checked) (t : Bool) (e : t ≡ offers_type a) where
-  pub type-checked : t ≡ true → of_checked r ≡ check_of offered → of_checked r ≡ offered_check a offered
-  type-checked h q = rw (← e, h) q
-
-  pub none-checked : t ≡ false → of_checked r ≡ given 0 → of_checked r ≡ offered_check a offered
-  none-checked h q = rw (← e, h) q
-
 -- the record's place
 module _ (ws w : List ℕ) (n id : ℕ) (o : Bool) (e : o ≡ in_order (read_from ws 0 n) w) where
-  pub out_of_order : not o ≡ true → way.refused 12 0 ≡ place_of id (read_from ws 0 n) w
+  pub out_of_order : (x : Refused) → not o ≡ true → IsUnplaced TableNotInOrder x →
+      way.refused (number_of x.refusal) x.place ≡ place_of id (read_from ws 0 n) w
   unfolding place_of
-  out_of_order f = rw (← e, not-true o f)
+  out_of_order x f g = rw (g, ← e, not-true o f)
 
-  module _ (f : not o ≡ false) (k : ℕ) (q : k ≡ slot_in ws n id) where
-    k-is : k ≡ slot_for id (read_from ws 0 n)
-    k-is = slot-there ws w n (sym e ∙ not-false o f) id k q
+  module _ (f : not o ≡ false) where
+    k-is : slot_in ws n id ≡ slot_for id (read_from ws 0 n)
+    k-is = slot-there ws w n (sym e ∙ not-false o f) id (slot_in ws n id) refl
 
-    pub found-there : k < n → way.found k ≡ place_of id (read_from ws 0 n) w
+    pub found_there : (k : ℕ) → Some k ≡ among n (slot_in ws n id) → way.found k ≡ place_of id (read_from ws 0 n) w
     unfolding place_of
-    found-there h = rw (← e, not-false o f, ← k-is, length-read ws 0 n, lt-ltb k n h)
+    found_there k q =
+        let is = some_among n (slot_in ws n id) k q in
+        rw (← e, not-false o f, ← k-is, length-read ws 0 n, lt-ltb (slot_in ws n id) n is.1, is.0)
 
-    module _ (h : n ≤ k) (j : ℕ) (p : j ≡ free_in ws n) where
-      j-is : j ≡ first_free (read_from ws 0 n)
-      j-is = free-there ws w n (sym e ∙ not-false o f) j p
+    module _ (q : None ≡ among n (slot_in ws n id)) where
+      j-is : free_in ws n ≡ first_free (read_from ws 0 n)
+      j-is = free-there ws w n (sym e ∙ not-false o f) (free_in ws n) refl
 
-      pub room-there : j < n → way.free j ≡ place_of id (read_from ws 0 n) w
+      past : n ≤ slot_in ws n id
+      past = none_among n (slot_in ws n id) q
+
+      pub room_there : (j : ℕ) → Some j ≡ among n (free_in ws n) → way.free j ≡ place_of id (read_from ws 0 n) w
       unfolding place_of
-      room-there i = rw (← e, not-false o f, ← k-is, length-read ws 0 n, le-ltb k n h, ← j-is, lt-ltb j n i)
+      room_there j i =
+          let is = some_among n (free_in ws n) j i in
+          rw (← e, not-false o f, ← k-is, length-read ws 0 n, le-ltb (slot_in ws n id) n past, ← j-is, lt-ltb (free_in ws n) n is.1, is.0)
 
-      pub none_free : n ≤ j → way.refused 13 0 ≡ place_of id (read_from ws 0 n) w
+      pub none_free : (x : Refused) → None ≡ among n (free_in ws n) → IsUnplaced TableFull x →
+          way.refused (number_of x.refusal) x.place ≡ place_of id (read_from ws 0 n) w
       unfolding place_of
-      none_free i = rw (← e, not-false o f, ← k-is, length-read ws 0 n, le-ltb k n h, ← j-is, le-ltb j n i)
-
--- after the checks of what is offered
-module _ (a : Act) (id : ℕ) (offered : List ℕ) (table : List Symbol) (w : List ℕ) (x : Checked) (e : of_checked x ≡ offered_check a offered) where
-  pub offer-refused : (n p : ℕ) → x ≡ checked.Refused n p → way.refused n p ≡ way_of a id offered table w
-  unfolding way_of
-  offer-refused n p h = rw (← e, h)
-
-  pub offer-good : (n : ℕ) (r : Way) → x ≡ checked.Good n → r ≡ place_of id table w → r ≡ way_of a id offered table w
-  unfolding way_of
-  offer-good n r h q = rw (← e, h) q
+      none_free x i g =
+          rw (g, ← e, not-false o f, ← k-is, length-read ws 0 n, le-ltb (slot_in ws n id) n past, ← j-is, le-ltb (free_in ws n) n (none_among n (free_in ws n) i))
 
 -- what is known of a slot that was chosen
 abbrev is_found : Way → Bool

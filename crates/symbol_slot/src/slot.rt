@@ -1,67 +1,48 @@
 ghost use Rattle.std.specs.Prelude.{◌≡◌};
-ghost use Rattle.type_layers.specs.Answer.{of_checked};
-ghost use Rattle.symbol_columns.specs.AsCoded.{read_from};
+ghost use Rattle.symbol_columns.specs.Table.{records};
 ghost use Rattle.symbol_operations.specs.AsCoded.{of_act};
 ghost use Rattle.symbol_slot.specs.Slot as rules;
 ghost use Rattle.symbol_slot.specs.AsCoded as as-coded;
 
-use symbol_columns::Columns;
-use symbol_operations::{Act, offers_type};
+use symbol_columns::Table;
+use symbol_operations::Act;
 use symbol_order::in_order;
 use symbol_search::{first_free, slot_of};
 use type_first_refusal::check_type;
-use type_layers::Checked;
+use type_layers::Refused;
 use type_numbers::Refusal;
 
 // The record that an act is about: the one that has the id, or the first free one.
-#[derive(Clone, Copy)]
+#[derive(Clone, Copy, Debug, PartialEq, Eq)]
 pub enum Way {
-    Refused { number: u64, place: u64 },
     Found(usize),
     Free(usize),
 }
 
-// The checks of the offered type, where there is one.
-fn check_offered(act: Act, offered: &[u64]) -> Checked
-    ensures { of_checked result ≡ rules.offered_check (of_act act) offered.now }
+#[tactic(auto, using(crate::proofs::Decided::out_of_order, crate::proofs::Decided::found_there, crate::proofs::Decided::room_there, crate::proofs::Decided::none_free))]
+fn slot_for(table: &Table, id: u32) -> Result<Way, Refused>
+    ensures { as-coded.of_way result ≡ rules.place_of id (records table.now) table.now.store.now }
 {
-    if offers_type(act) {
-        check_type(offered)
-    } else {
-        Checked::Good(0)
+    if !in_order(table) {
+        return Err(Refusal::TableNotInOrder.into());
     }
-}
-
-fn slot_for(flat: &Columns, n: usize, store: &[u64], id: u32) -> Way
-    ensures { as-coded.of_way result ≡ rules.place_of id (read_from flat.now 0 n) store.now }
-{
-    if !in_order(flat, n, store) {
-        return Way::Refused {
-            number: Refusal::TABLE_NOT_IN_ORDER,
-            place: 0,
-        };
+    if let Some(at) = slot_of(table, id) {
+        return Ok(Way::Found(at));
     }
-    let at = slot_of(flat, n, id);
-    if at < n {
-        return Way::Found(at);
-    }
-    let free = first_free(flat, n);
-    if free < n {
-        return Way::Free(free);
-    }
-    Way::Refused {
-        number: Refusal::TABLE_FULL,
-        place: 0,
+    match first_free(table) {
+        Some(free) => Ok(Way::Free(free)),
+        None => Err(Refusal::TableFull.into()),
     }
 }
 
 // The refusals of the offered type come before those of the table.
-pub fn way_of(act: Act, flat: &Columns, n: usize, store: &[u64], id: u32, offered: &[u64]) -> Way
+#[tactic(auto, unfolding(crate::specs::Slot::way_of))]
+pub fn way_of(act: Act, table: &Table, id: u32, offered: &[u64]) -> Result<Way, Refused>
     ensures { as-coded.of_way result
-        ≡ rules.way_of (of_act act) id offered.now (read_from flat.now 0 n) store.now }
+        ≡ rules.way_of (of_act act) id offered.now (records table.now) table.now.store.now }
 {
-    match check_offered(act, offered) {
-        Checked::Refused { number, place } => Way::Refused { number, place },
-        Checked::Good(_) => slot_for(flat, n, store, id),
+    if act.offers_type() {
+        check_type(offered)?;
     }
+    slot_for(table, id)
 }
