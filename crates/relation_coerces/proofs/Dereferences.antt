@@ -71,6 +71,11 @@ auto_looked a b = by_kinds (eqb (outer (layers a)) kind.view) (eqb (outer (layer
         rw (p, q, lines kind.pointer (layers a) (layers b) (equals (layers a) (layers b)) (eqb-true (outer (layers a)) kind.pointer q) refl, inner-layers a)
     by_kinds false false p q = rw (p, q)
 
+-- k is the outer kind of a
+pub auto-view : (a b : List ℕ) (k : ℕ) (f r : Bool) → k ≡ outer (layers a) → f ≡ is_array_or_struct k → f ≡ false → k ≡ kind.view →
+    r ≡ (equals (layers a) (layers b) || subautoderefs (layers a) (layers b)) → r ≡ autoderefs (layers a) (layers b)
+auto-view a b k f r p e n t s = rw (auto_looked a b, ← p, ← e, n, t) s
+
 pub ruleset sub_asked = (sub_none, sub_other, sub_held, sub_further, words_apart)
 
-pub ruleset auto_asked = (auto_looked, as-value, by-address)
+pub ruleset auto_asked = (auto_looked, auto-view, as-value, by-address)

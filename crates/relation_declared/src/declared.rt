@@ -29,7 +29,7 @@ pub(crate) fn slice_pointer_meets_pointer(k: u64, l: u64, m: u64) -> bool
 }
 
 // Whether a type can be declared as another.
-#[tactic(auto, using(crate::proofs::Decisions::declared_looked))]
+#[tactic(auto, using(crate::proofs::Decisions::declares))]
 pub fn can_be_declared_as(a: &[u64], b: &[u64]) -> bool
     ensures { result ≡ rules.declared (layers a.now) (layers b.now) }
 {

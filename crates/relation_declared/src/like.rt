@@ -18,7 +18,6 @@ pub(crate) fn array_meets_arraylike(k: u64, l: u64) -> bool
 }
 
 // Whether a type is like another: the same, but that arrays may stand where the other has an Arraylike.
-#[tactic(auto, using(crate::proofs::Decisions::alike))]
 pub fn is_like(a: &[u64], b: &[u64]) -> bool
     ensures { result ≡ rules.like (layers a.now) (layers b.now) }
 {

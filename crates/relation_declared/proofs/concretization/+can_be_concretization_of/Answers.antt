@@ -1,11 +1,11 @@
 use Prim.Native.Nat.{◌≤◌}
 use native.Mathlib.Omega.{arith}
 use lib.ListN.{length}
-use Rattle.relation_declared.proofs.Decisions.{concrete_left, concrete_right, concrete_held, concrete_like, concrete_pointer, concrete_resolved, concrete_same}
+use Rattle.relation_declared.proofs.Decisions.{concrete_left, concrete_right, concrete-in, concrete-like, concrete-pointer, concrete-resolved, concrete-same}
 use Rattle.relation_declared.proofs.concretization.+can_be_concretization_of.Goals.{in_default-via-then-a-lt3, in_default-via-else-a-lt3+then-this-lt3}
 use Rattle.relation_declared.proofs.concretization.+can_be_concretization_of.Goals as goal
 
-ruleset tested = (concrete_held, concrete_like, concrete_pointer, concrete_resolved, concrete_same)
+ruleset tested = (concrete-in, concrete-like, concrete-pointer, concrete-resolved, concrete-same)
 
 pub returns-in_default : goal.returns-in_default
 returns-in_default t c =
