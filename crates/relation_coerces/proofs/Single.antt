@@ -5,7 +5,7 @@ use Rattle.type_layers.proofs.Single.{Single}
 use Rattle.relation_coerces.specs.AsCoded.{of_coercion}
 use Rattle.relation_coerces.specs.declared.coercion.Coercion.{Coercion}
 use Rattle.relation_coerces.specs.declared.coercion.Coercion.TheVariants as coded
-use Rattle.relation_coerces.proofs.coercion.U64FromCoercion.from.Kinds as from-kinds
+use Rattle.relation_coerces.proofs.coercion.U64FromCoercion.from.Kinds as number-kinds
 use Rattle.relation_coerces.proofs.coercion.U64FromCoercion.from.Reads as from
 use Rattle.relation_coerces.proofs.coercion.Coercion.is_as_value.Kinds as of-kinds
 use Rattle.relation_coerces.proofs.coercion.Coercion.is_as_value.Reads as is-as-value
@@ -28,8 +28,8 @@ coercion-apart coded.ByAddress coded.None e = cc
 coercion-apart coded.ByAddress coded.AsValue e = cc
 coercion-apart coded.ByAddress coded.ByAddress e = refl
 
-pub from-single : Single 0 from-kinds.ps from-kinds.r from.Post
-from-single κs a x y s t p q = p ∙ sym q
+pub number-single : Single 0 number-kinds.ps number-kinds.r from.Post
+number-single κs a x y s t p q = p ∙ sym q
 
 pub is-as-value-single : Single 0 of-kinds.ps of-kinds.r is-as-value.Post
 is-as-value-single κs a x y s t p q = p ∙ sym q
