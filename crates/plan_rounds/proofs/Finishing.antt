@@ -1,33 +1,49 @@
 -- The rounds' steps and what the settling adds are the plan's.
 -- Assumes nothing.
-use mathlib.Core.Path.{◌≡◌, refl, sym, ap, ◌∙◌}
-use mathlib.Core.Bool.{Bool, true, false, cond, true≢false, false≢true}
+use mathlib.Core.Path.{◌≡◌, refl, ap, ◌∙◌}
+use mathlib.Core.Bool.{Bool, true, false, cond}
 use mathlib.Core.List.{List, [], ◌∷◌, ◌++◌}
 use Prim.Native.Nat.{ℕ, ◌+◌, ◌*◌, ◌%◌, ◌≤◌}
 use native.Mathlib.Omega.{arith}
 use lib.Dec.{eqb}
-use lib.ListN.{length, take, replicate, length-drop}
-use lib.Seq.{length-take-le}
+use lib.ListN.{length, replicate, length-drop}
+use Rattle.std.specs.Prelude.{Result, Ok, Err}
 use Rattle.type_numbers.specs.Kind as kind
+use Rattle.type_numbers.specs.Refusal.{number_of}
+use Rattle.type_numbers.specs.declared.refusal.Refusal.{Refusal}
 use Rattle.type_layers.specs.Layers.{Layer, layers}
 use Rattle.type_layers.specs.AsCoded.{Whole}
-use Rattle.type_layers.specs.Answer.{refused}
+use Rattle.type_layers.specs.Answer.{Answer, refused, IsUnplaced}
+use Rattle.type_layers.specs.declared.answers.Refused.{Refused}
 use Rattle.type_layers.proofs.Spelling.{spelled-length, spelled-layers, layers-drop}
 use Rattle.type_parts.specs.Parts.{references, fully_dereferenced}
 use Rattle.type_size_and_depth.specs.Depth.{pointer_depth}
 use Rattle.plan_steps.specs.Steps.{Step, step, steps, step_words}
-use Rattle.plan_steps.proofs.Words.{words_append, words_back, words-whole}
+use Rattle.plan_steps.proofs.Words.{words-length, words_back}
 use Rattle.plan_settling.specs.declared.settling.Settling.{Settling}
 use Rattle.plan_settling.specs.declared.settling.Settling.TheVariants as settling
 use Rattle.plan_settling.specs.Settling.{settle_by}
 use Rattle.plan_settling.specs.AsCoded.{of_settling, Settles}
 use Rattle.plan_ending.specs.declared.ending.Ending.{Ending}
-use Rattle.plan_rounds.specs.Settled.{with_settling}
-use Rattle.plan_report.specs.Report.{delivered}
-use Rattle.plan_rounds.specs.AsCoded.{finished}
 use Rattle.plan_ending.specs.AsCoded.{ending_of, body_of}
+use Rattle.plan_report.specs.Plan.{Plan}
+use Rattle.plan_report.specs.Report.{delivered, HandsResult}
+use Rattle.plan_report.specs.declared.report.Report.{Report}
+use Rattle.plan_report.proofs.Delivering.{refuses}
 use Rattle.plan_report.specs.AsCoded.{plan_of_words}
-use Rattle.plan_rounds.proofs.Pushing.{Pushed}
+use Rattle.plan_rounds.specs.Settled.{with_settling}
+use Rattle.symbol_columns.specs.declared.table.Table.{Table}
+use Rattle.plan_rounds.specs.Rounds.{ended, stopped, in_rounds}
+use Rattle.plan_rounds.specs.AsCoded.{stored_in, finished, plan_in_rounds}
+use Rattle.plan_rounds.specs.declared.question.Question.{Question}
+
+-- what is handed out for an outcome, by what that is
+module _ (d : Answer Plan) (r : Result Report Refused) (b b' t t' : List ℕ) where
+  pub hands-same : (e : Answer Plan) → d ≡ e → HandsResult e r b b' t t' → HandsResult d r b b' t t'
+  hands-same e q h = rw q h
+
+pub hands-refused : (d : Answer Plan) (n : Refusal) (r : Result Report Refused) (x : Refused) (b t : List ℕ) → r ≡ Err x → IsUnplaced n x → d ≡ refused (number_of n) 0 → HandsResult d r b b t t
+hands-refused d n r x b t e i q = rw e (refuses d n x b t q i)
 
 -- a type has no more Pointers than layers
 pub depth-few : (a : List Layer) → pointer_depth a ≤ length a
@@ -55,7 +71,6 @@ extra-few settling.PointedTo p n e h q = rw h (omega arith)
 extra-few settling.AddressCoerced p n e h q = rw h (omega arith)
 extra-few settling.Addressed p n e h q = rw h (omega arith)
 extra-few settling.Dereferenced p n e h q = rw h (omega arith)
-extra-few (settling.Refused k) p n e h q = rw h (omega arith)
 
 pub lead-few : (s : Settling) (p n : ℕ) (e : Ending) → e ≡ ending_of s p n → n ≤ 255 → e.lead ≤ 255
 lead-few settling.Identical p n e h q = rw h (omega arith)
@@ -66,7 +81,6 @@ lead-few settling.PointedTo p n e h q = rw h (omega arith)
 lead-few settling.AddressCoerced p n e h q = rw h (omega arith)
 lead-few settling.Addressed p n e h q = rw h (omega arith)
 lead-few settling.Dereferenced p n e h q = rw h q
-lead-few (settling.Refused k) p n e h q = rw h (omega arith)
 
 dereferenced-whole : (ws : List ℕ) → Whole ws → Whole (fully_dereferenced ws)
 unfolding fully_dereferenced
@@ -83,61 +97,50 @@ body-whole settling.PointedTo c t r e p q = rw e p
 body-whole settling.AddressCoerced c t r e p q = rw e p
 body-whole settling.Addressed c t r e p q = rw e p
 body-whole settling.Dereferenced c t r e p q = rw e (dereferenced-whole c p)
-body-whole (settling.Refused k) c t r e p q = rw e p
 
--- the steps that stand in words, and those that were written after them
-steps-after : (ws : List ℕ) (us : List Step) → length ws % 4 ≡ 0 → steps (ws ++ step_words us) ≡ steps ws ++ us
-steps-after ws us h =
-    let e : ws ++ step_words us ≡ step_words (steps ws ++ us) = sym (words_append (steps ws) us ∙ rw (words-whole ws h)) in
-    rw e (words_back (steps ws ++ us))
+pub fours : (w : List ℕ) (ss : List Step) → w ≡ step_words ss → length w % 4 ≡ 0
+fours w ss e = rw (e, words-length) (omega arith)
 
--- what the code's numbers say of the settling
-module _ (cur target ws : List ℕ) (k n : ℕ) where
+module _ (cur target : List ℕ) (ss : List Step) (k n : ℕ) where
   abbrev c : List Layer
   c = layers cur
 
   abbrev t : List Layer
   t = layers target
 
-  refuses-so : (s : Settling) → (ending_of s (pointer_depth c) n).refused ≡ true → with_settling (steps ws) k (of_settling s c t n) ≡ refused (ending_of s (pointer_depth c) n).number 0
-  refuses-so settling.Identical h = absurd (false≢true h)
-  refuses-so settling.Viewed h = absurd (false≢true h)
-  refuses-so settling.Coerced h = absurd (false≢true h)
-  refuses-so settling.SlicePointer h = absurd (false≢true h)
-  refuses-so settling.PointedTo h = absurd (false≢true h)
-  refuses-so settling.AddressCoerced h = absurd (false≢true h)
-  refuses-so settling.Addressed h = absurd (false≢true h)
-  refuses-so settling.Dereferenced h = absurd (false≢true h)
-  refuses-so (settling.Refused j) h = refl
-
-  gives_so : (s : Settling) (v : List ℕ) → (ending_of s (pointer_depth c) n).refused ≡ false →
-      steps v ≡ steps ws ++ replicate (ending_of s (pointer_depth c) n).extra (step (ending_of s (pointer_depth c) n).kind 0 0 0) →
-      with_settling (steps ws) k (of_settling s c t n) ≡ plan_of_words v k (ending_of s (pointer_depth c) n) (body_of s cur target)
+  gives_so : (s : Settling) (v : List ℕ) → steps v ≡ ss ++ replicate (ending_of s (pointer_depth c) n).extra (step (ending_of s (pointer_depth c) n).kind 0 0 0) →
+      with_settling ss k (of_settling (Ok s) c t n) ≡ plan_of_words v k (ending_of s (pointer_depth c) n) (body_of s cur target)
   unfolding plan_of_words fully_dereferenced settle_by
-  gives_so settling.Identical v h e = rw e refl
-  gives_so settling.Viewed v h e = rw e refl
-  gives_so settling.Coerced v h e = rw e refl
-  gives_so settling.SlicePointer v h e = rw e refl
-  gives_so settling.PointedTo v h e = rw e refl
-  gives_so settling.AddressCoerced v h e = rw e refl
-  gives_so settling.Addressed v h e = rw e refl
-  gives_so settling.Dereferenced v h e = rw (e, layers-drop (references c) cur) refl
-  gives_so (settling.Refused j) v h e = absurd (true≢false h)
+  gives_so settling.Identical v e = rw e refl
+  gives_so settling.Viewed v e = rw e refl
+  gives_so settling.Coerced v e = rw e refl
+  gives_so settling.SlicePointer v e = rw e refl
+  gives_so settling.PointedTo v e = rw e refl
+  gives_so settling.AddressCoerced v e = rw e refl
+  gives_so settling.Addressed v e = rw e refl
+  gives_so settling.Dereferenced v e = rw (e, layers-drop (references c) cur) refl
 
-module _ (cur target : List ℕ) (k n room wide : ℕ) (s : Settling) (p : ℕ) (e : Ending) (by-line : Settles s (layers cur) (layers target) n)
-    (deep : p ≡ pointer_depth (layers cur)) (numbers : e ≡ ending_of s p n) where
-  ending : e ≡ ending_of s (pointer_depth (layers cur)) n
-  ending = rw deep at numbers
+  module _ (room wide m : ℕ) (em : m ≡ n) where
+    pub not-settled : (r : Refusal) → Settles (Err r) c t m → finished ss k c t n room wide ≡ refused (number_of r) 0
+    unfolding finished delivered
+    not-settled r by-line = rw (← (rw em at by-line).1) refl
 
-  pub stops : (ws : List ℕ) → e.refused ≡ true → finished ws k (layers cur) (layers target) n room wide ≡ refused e.number 0
-  unfolding finished delivered
-  stops ws h = rw (← by-line.1, ending, refuses-so cur target ws k n s (rw ending at h)) refl
+    pub settled : (s : Settling) (p : ℕ) (e : Ending) (x : Step) (us : List Step) (v b : List ℕ) → Settles (Ok s) c t m → p ≡ pointer_depth c → e ≡ ending_of s p m →
+        x ≡ step e.kind 0 0 0 → us ≡ ss ++ replicate e.extra x → v ≡ step_words us → b ≡ body_of s cur target →
+        finished ss k c t n room wide ≡ delivered room wide (plan_of_words v k e b)
+    unfolding finished
+    settled s p e x us v b by-line deep numbers ex eu ev eb =
+        let is : e ≡ ending_of s (pointer_depth c) n = rw (deep, em) at numbers in
+        let w : steps v ≡ ss ++ replicate e.extra (step e.kind 0 0 0) = rw (ev, words_back us, eu, ex) refl in
+        ap (delivered room wide) (rw (← (rw em at by-line).1, eb, is) (gives_so s v (rw is at w)))
 
-  pub goes-out : (b b' body : List ℕ) (i m : ℕ) → e.refused ≡ false → 4 * i ≤ length b → Pushed b i b' m (replicate e.extra (step e.kind 0 0 0)) → body ≡ body_of s cur target →
-      finished (take (4 * i) b) k (layers cur) (layers target) n room wide ≡ delivered room wide (plan_of_words (take (4 * m) b') k e body)
-  unfolding finished
-  goes-out b b' body i m h l q f =
-      let w : length (take (4 * i) b) % 4 ≡ 0 = rw (length-take-le (4 * i) b l) (omega arith) in
-      let v : steps (take (4 * m) b') ≡ steps (take (4 * i) b) ++ replicate e.extra (step e.kind 0 0 0) =
-      ap steps q.1 ∙ steps-after (take (4 * i) b) (replicate e.extra (step e.kind 0 0 0)) w in
-      ap (delivered room wide) (rw (← by-line.1, f, ending) (gives_so cur target (take (4 * i) b) k n s (take (4 * m) b') (rw ending at h) (rw ending at v)))
+-- the plan of the rounds, by how they ended
+module _ (table : Table) (q : Question) (room wide : ℕ) where
+  pub rounds-refused : (e : ℕ) → in_rounds (stored_in table) q.rounds (layers q.known.now) (steps q.asked.now) ≡ stopped e → plan_in_rounds table q room wide ≡ refused e 0
+  unfolding plan_in_rounds delivered
+  rounds-refused e w = rw w refl
+
+  pub rounds-ended : (ss : List Step) (k : ℕ) (c : List Layer) → in_rounds (stored_in table) q.rounds (layers q.known.now) (steps q.asked.now) ≡ ended ss k c →
+      plan_in_rounds table q room wide ≡ finished ss k c (layers q.target.now) q.level room wide
+  unfolding plan_in_rounds finished
+  rounds-ended ss k c w = rw w refl

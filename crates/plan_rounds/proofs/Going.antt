@@ -1,70 +1,107 @@
--- What a round's words and its refusal say of where it goes.
+-- The rounds' loop: what it keeps, its ways on and out.
 -- Assumes nothing.
 use mathlib.Core.Path.{◌≡◌, refl, sym, ap, ◌∙◌}
-use mathlib.Core.Bool.{Bool, true, false, cond}
-use mathlib.Core.List.{List, [], ◌∷◌}
-use Prim.Native.Nat.{ℕ}
+use mathlib.Core.Bool.{Bool, true, false}
+use mathlib.Core.List.{List, [], ◌∷◌, ◌++◌, append_assoc, append-nil}
+use mathlib.Core.Logic.{◌⊎◌, ⊎_elim}
+use Prim.Native.Nat.{ℕ, zero, suc, ◌+◌, ◌*◌, ◌-◌, ◌≤◌, ◌<◌}
+use native.Mathlib.Nat.{add_assoc, add-zero, zero-add, sub-zero}
 use native.Mathlib.Omega.{arith}
-use lib.ListN.{drop}
-use Rattle.type_layers.specs.Layers.{Layer, layers, outer, inside}
-use Rattle.type_layers.specs.Answer.{Answer, given, refused}
-use Rattle.type_layers.proofs.Words.{inner-layers}
-use Rattle.type_wellformed.specs.WellFormed.{well_formed}
-use Rattle.plan_steps.specs.Steps.{Step}
-use Rattle.plan_turn.specs.Turn.{Turn}
-use Rattle.plan_turn.proofs.Cases.{cases}
+use lib.ListN.{length, drop, length-append}
+use Rattle.type_layers.specs.Layers.{Layer, layers}
+use Rattle.type_layers.specs.AsCoded.{Whole}
+use Rattle.type_layers.specs.Answer.{given, refused}
+use Rattle.type_layers.proofs.Words.{part, part-is}
+use Rattle.plan_steps.specs.Steps.{Step, steps}
+use Rattle.plan_steps.proofs.Words.{steps-none, steps-more}
+use Rattle.plan_steps.specs.AsCoded.{step_at}
+use Rattle.plan_turn.specs.Turn.{Turn, Stuck, Auto, Element, Desliced, Member}
 use Rattle.symbol_members.specs.Member.{Stored}
-use Rattle.symbol_members.specs.Members.{of_layers}
-use Rattle.plan_rounds.specs.Rounds.{goes, turn_at, member_type}
-use Rattle.plan_rounds.specs.AsCoded.{onto}
-use Rattle.plan_rounds.proofs.Refusing.{member_refusal, refusal}
+use Rattle.plan_rounds.specs.Rounds.{Rounds, ended, stopped, steps_of, taken_by, goes, turn_at, prepend, in_rounds}
 
--- the layers inside
-pub one_in : (t : List Layer) → drop 1 t ≡ inside t
-unfolding inside
-one_in [] = refl
-one_in (x ∷ t) = refl
+pub steps-few : (a : Step) (t : Turn) → length (steps_of a t) ≤ 2
+steps-few a Stuck = omega arith
+steps-few a (Auto k) = omega arith
+steps-few a (Element m l) = omega arith
+steps-few a (Desliced m) = omega arith
+steps-few a Member = omega arith
 
-pub two_in : (t : List Layer) → drop 2 t ≡ inside (inside t)
-unfolding inside
-two_in [] = refl
-two_in (x ∷ []) = refl
-two_in (x ∷ y ∷ t) = refl
+pub took-few : (t : Turn) → taken_by t ≤ 1
+took-few Stuck = omega arith
+took-few (Auto k) = omega arith
+took-few (Element m l) = omega arith
+took-few (Desliced m) = omega arith
+took-few Member = omega arith
 
--- where there is no refusal it goes on; else it is refused
-abbrev pub Outcome : ℕ → List Layer → Answer (List Layer) → Type 0
-Outcome e u g = (e ≡ 0 → g ≡ given u) × ((e ≡ 0 → ⊥) → g ≡ refused e 0)
+module _ (stored : ℕ → Stored) where
+  prepend-prepend : (a b : List Step) (j k : ℕ) (w : Rounds) → prepend stored a j (prepend stored b k w) ≡ prepend stored (a ++ b) (j + k) w
+  prepend-prepend a b j k (ended us m c) = simp (append_assoc, add_assoc)
+  prepend-prepend a b j k (stopped n) = refl
 
-abbrev onward : (u v : List Layer) → v ≡ u → Outcome 0 u (given v)
-onward u v e = (λ z. ap given e, λ z. absurd (z refl))
+  prepend-none : (w : Rounds) → prepend stored [] 0 w ≡ w
+  prepend-none (ended us m c) = rw zero-add
+  prepend-none (stopped n) = refl
 
-member-outcome : (t : List Layer) → Outcome (member_refusal t) t (member_type (of_layers t))
-member-outcome [] = (λ z. absurd (omega arith), λ z. refl)
-member-outcome (x ∷ t) = by_form (well_formed (x ∷ t))
-  where
-    by_form : (f : Bool) → Outcome (cond f 0 4) (x ∷ t) (cond f (given (x ∷ t)) (refused 4 0))
-    by_form true = (λ z. refl, λ z. absurd (z refl))
-    by_form false = (λ z. absurd (omega arith), λ z. refl)
+  rounds-none : (n : ℕ) (t : List Layer) (q : List Step) → q ≡ [] → in_rounds stored n t q ≡ ended [] 0 t
+  unfolding in_rounds
+  rounds-none zero t q e = refl
+  rounds-none (suc n) t q e = rw e refl
 
-module _ (member : ℕ → List ℕ) (ws : List ℕ) (a : Step) where
-  abbrev stored : ℕ → Stored
-  stored id = of_layers (layers (member id))
+  rounds-out : (t : List Layer) (q : List Step) → in_rounds stored 0 t q ≡ ended [] 0 t
+  unfolding in_rounds
+  rounds-out t q = refl
 
-  abbrev Goes : Turn → Type 0
-  Goes r = Outcome (refusal r (layers (onto member ws a.handle r))) (layers (onto member ws a.handle r)) (goes stored (layers ws) a r)
+  rounds-more : (n : ℕ) (t : List Layer) (a : Step) (q : List Step) (u : List Layer) → goes stored t a (turn_at t a) ≡ given u →
+      in_rounds stored (suc n) t (a ∷ q) ≡ prepend stored (steps_of a (turn_at t a)) (taken_by (turn_at t a)) (in_rounds stored n u (drop (taken_by (turn_at t a)) (a ∷ q)))
+  unfolding in_rounds
+  rounds-more n t a q u g = rw g refl
 
-  inner-two : layers (drop 3 (drop 3 ws)) ≡ inside (inside (layers ws))
-  inner-two = inner-layers (drop 3 ws) ∙ ap inside (inner-layers ws)
+  rounds-stop : (n : ℕ) (t : List Layer) (a : Step) (q : List Step) (e p : ℕ) → goes stored t a (turn_at t a) ≡ refused e p → in_rounds stored (suc n) t (a ∷ q) ≡ stopped e
+  unfolding in_rounds
+  rounds-stop n t a q e p g = rw g refl
 
-  pub going : Goes (turn_at (layers ws) a)
-  unfolding onto refusal
-  going =
-      cases (outer (layers ws)) (outer (inside (layers ws))) a.kind a.mark Goes
-      (λ z. absurd (omega arith), λ z. refl)
-      (λ e. onward _ _ (sym (inner-layers ws)))
-      (λ e. onward _ _ (sym (inner-layers ws)))
-      (λ d e f h. onward _ _ (two_in (layers ws) ∙ sym inner-two))
-      (λ m w e f. onward _ _ (one_in (layers ws) ∙ sym (inner-layers ws)))
-      (λ e f. onward _ _ (sym (inner-layers ws)))
-      (λ e f. onward _ _ (sym (inner-layers ws)))
-      (λ e f. member-outcome (layers (member a.handle)))
+  -- what the loop keeps: the rounds from the start are the steps so far before the rounds from here
+  pub record Along (rounds : ℕ) (known : List Layer) (asked : List Step) (ss : List Step) (cur rest : List ℕ) (i taken : ℕ) : Type 0 where
+    pub same : in_rounds stored rounds known asked ≡ prepend stored ss taken (in_rounds stored (rounds - i) (layers cur) (steps rest))
+    pub few : length ss ≤ 2 * i
+    pub least : taken ≤ i
+    pub whole : Whole cur
+
+  pub start : (rounds : ℕ) (known asked : List ℕ) → Whole known → Along rounds (layers known) (steps asked) [] known asked 0 0
+  start rounds known asked w =
+      record { same = rw (sub-zero, prepend-none (in_rounds stored rounds (layers known) (steps asked))); few = omega arith; least = omega arith; whole = w }
+
+  module _ (rounds : ℕ) (known : List Layer) (asked ss : List Step) (cur rest : List ℕ) (i taken : ℕ) (so : Along rounds known asked ss cur rest i taken) where
+    -- left: by the rounds, or by the asked steps
+    pub ends : (rounds ≤ i) ⊎ (length rest < 4) → in_rounds stored rounds known asked ≡ ended ss taken (layers cur)
+    ends out =
+        let gone : in_rounds stored (rounds - i) (layers cur) (steps rest) ≡ ended [] 0 (layers cur) =
+        ⊎_elim (λ (h : rounds ≤ i). let z : rounds - i ≡ 0 = omega arith in rw z (rounds-out (layers cur) (steps rest)))
+        (λ (h : length rest < 4). rounds-none (rounds - i) (layers cur) (steps rest) (steps-none rest h)) out in
+        rw (so.same, gone, append-nil, add-zero) refl
+
+    -- one round
+    module _ (lt : i < rounds) (more : 4 ≤ length rest) (a : Step) (is : a ≡ step_at rest) (t : Turn) (turned : t ≡ turn_at (layers cur) a) where
+      left : rounds - i ≡ suc (rounds - (i + 1))
+      left = omega arith
+
+      pub stops : (e p : ℕ) → refused e p ≡ goes stored (layers cur) a t → in_rounds stored rounds known asked ≡ stopped e
+      stops e p g =
+          rw (so.same, left, steps-more rest more, ← is, rounds-stop (rounds - (i + 1)) (layers cur) a (steps (drop 4 rest)) e p (rw turned at (sym g))) refl
+
+      module _ (next : List ℕ) (g : given (layers next) ≡ goes stored (layers cur) a t) (w : Whole next) (ss' : List Step) (es : ss' ≡ ss ++ steps_of a t) where
+        turns : (rest' : List ℕ) (taken' : ℕ) → taken' ≡ taken + taken_by t → steps rest' ≡ drop (taken_by t) (steps rest) → Along rounds known asked ss' next rest' (i + 1) taken'
+        turns rest' taken' et er =
+            record {
+              same =
+                  rw (so.same, left, steps-more rest more, ← is, rounds-more (rounds - (i + 1)) (layers cur) a (steps (drop 4 rest)) (layers next) (rw turned at (sym g)), prepend-prepend, ← turned, es, et, er, steps-more rest more, ← is) refl;
+              few = rw (es, length-append) (omega (arith, so.few, steps-few a t));
+              least = omega (arith, so.least, took-few t, et);
+              whole = w;
+            }
+
+        pub took : 1 ≡ taken_by t → (rest' : List ℕ) → rest' ≡ part rest 4 → (taken' : ℕ) → taken' ≡ taken + 1 → Along rounds known asked ss' next rest' (i + 1) taken'
+        took k rest' er taken' et = turns rest' taken' (rw (← k) et) (rw (er, part-is rest 4, ← k, steps-more rest more) refl)
+
+        pub kept : 0 ≡ taken_by t → (rest' : List ℕ) → rest' ≡ rest → (taken' : ℕ) → taken' ≡ taken → Along rounds known asked ss' next rest' (i + 1) taken'
+        kept k rest' er taken' et = turns rest' taken' (rw (← k, add-zero) et) (rw (er, ← k) refl)

@@ -2,7 +2,10 @@
 #![tactic(auto)]
 
 mod finish;
+mod question;
 mod round;
 mod rounds;
+mod steps;
 
+pub use question::Question;
 pub use rounds::plan_in_rounds;

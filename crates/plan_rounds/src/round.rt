@@ -1,99 +1,87 @@
-ghost use Rattle.std.specs.Prelude.{◌≡◌, ◌++◌, ◌+◌, ◌*◌, ◌≤◌, length, take, get_or};
+ghost use Rattle.std.specs.Prelude.{◌≡◌, ◌+◌, ◌≤◌, ◌++◌, cond, length, IfOk, IfErr};
 ghost use Rattle.type_layers.specs.Layers.{layers};
-ghost use Rattle.plan_steps.specs.Steps.{step_words};
-ghost use Rattle.plan_steps.specs.AsCoded.{step_at};
-ghost use Rattle.plan_turn.specs.AsCoded.{of_turn};
-ghost use Rattle.symbol_members.specs.AsCoded.{member_in};
-ghost use Rattle.plan_rounds.specs.Rounds.{steps_of, taken_by, turn_at};
-ghost use Rattle.plan_rounds.specs.AsCoded as rounds;
+ghost use Rattle.type_layers.specs.AsCoded.{Whole};
+ghost use Rattle.plan_steps.specs.AsCoded.{of_step};
+ghost use Rattle.plan_turn.specs.AsCoded.{of_turn, of_decided};
+ghost use Rattle.plan_rounds.specs.Rounds as rules;
+ghost use Rattle.plan_rounds.specs.AsCoded.{AllWhole, stored_in, Gives, Refuses};
 
-use plan_steps::four;
+use crate::steps::Steps;
+use plan_steps::Step;
 use plan_turn::{Turn, turn_of};
-use symbol_columns::Columns;
+use symbol_columns::Table;
 use symbol_members::member;
 use type_layers::{inner, outer};
-use type_numbers::{Mark, StepKind};
+use type_numbers::{Mark, Refusal, StepKind};
+use type_wellformed::is_wellformed;
 
-// The word at i, 0 past the end.
-fn word(q: &[u64], i: usize) -> u64
-    ensures { result ≡ get_or q.now i 0 }
+// What a round decides of the current type and the first asked step.
+#[tactic(auto, using(crate::proofs::Reading::inner))]
+pub(crate) fn turn_at(cur: &[u64], asked: Step) -> Option<Turn>
+    ensures { of_decided result ≡ rules.turn_at (layers cur.now) (of_step asked) }
 {
-    if i < q.len() { q[i] } else { 0 }
+    turn_of(outer(cur), outer(inner(cur)), asked.kind, asked.mark)
 }
 
-// What a round decides of the current type and the first of the asked steps.
-pub(crate) fn turn_at(cur: &[u64], q: &[u64]) -> Turn
-    ensures { of_turn result ≡ turn_at (layers cur.now) (step_at q.now) }
+// The words of a member's type.
+#[tactic(auto, using(crate::proofs::Reading::member))]
+fn member_type<'a>(table: &Table<'_, 'a>, id: u64) -> Result<&'a [u64], Refusal>
+    requires { AllWhole table.now }
+    ensures ok { IfOk result (λ ws. Gives (rules.member_type (stored_in table.now id)) ws.now) }
+    ensures err { IfErr result (Refuses (rules.member_type (stored_in table.now id))) }
 {
-    turn_of(outer(cur), outer(inner(cur)), word(q, 0), word(q, 2))
+    let words = member(table, id);
+    if words.len() < 3 {
+        Err(Refusal::NoMember)
+    } else if !is_wellformed(words) {
+        Err(Refusal::IllFormed)
+    } else {
+        Ok(words)
+    }
 }
 
 // The words where a round goes on: a part of the current type's, or of the store.
+#[tactic(auto, using(crate::proofs::Reading::inner), unfolding(plan_turn::specs::AsCoded::of_turn))]
 pub(crate) fn onto<'a>(
-    flat: &Columns,
-    n: usize,
-    store: &'a [u64],
+    table: &Table<'_, 'a>,
     cur: &'a [u64],
-    q: &[u64],
-    t: Turn,
-) -> &'a [u64]
-    ensures { result.now ≡ rounds.onto (member_in flat.now n store.now)
-        cur.now (step_at q.now).handle (of_turn t) }
+    asked: Step,
+    turn: Turn,
+) -> Result<&'a [u64], Refusal>
+    requires { Whole cur.now × AllWhole table.now }
+    ensures ok { IfOk result (λ ws. Gives (rules.goes (stored_in table.now) (layers cur.now) (of_step asked) (of_turn turn)) ws.now) }
+    ensures err { IfErr result (Refuses (rules.goes (stored_in table.now) (layers cur.now) (of_step asked) (of_turn turn))) }
 {
-    match t {
-        Turn::Stuck => cur,
-        Turn::Auto(_) => inner(cur),
-        Turn::Element { mark: _, layers } => {
-            if layers == 1 {
-                inner(cur)
-            } else {
-                inner(inner(cur))
-            }
-        }
-        Turn::Desliced(_) => inner(cur),
-        Turn::Member => member(flat, n, store, word(q, 1)),
+    match turn {
+        Turn::Auto(_) | Turn::Element(_) | Turn::Desliced(_) => Ok(inner(cur)),
+        Turn::ElementThrough(_) => Ok(inner(inner(cur))),
+        Turn::Member => member_type(table, asked.handle),
     }
 }
 
-// How many asked steps a round takes.
-pub(crate) fn took(t: Turn) -> usize
-    ensures { result ≡ taken_by (of_turn t) }
+// Whether a round takes the asked step.
+#[tactic(auto, unfolding(plan_turn::specs::AsCoded::of_turn))]
+pub(crate) fn takes(turn: Turn) -> bool
+    ensures { cond result 1 0 ≡ rules.taken_by (of_turn turn) }
 {
-    match t {
-        Turn::Stuck => 0,
-        Turn::Auto(_) => 0,
-        Turn::Element { mark: _, layers: _ } => 1,
-        Turn::Desliced(_) => 1,
-        Turn::Member => 1,
-    }
+    !matches!(turn, Turn::Auto(_))
 }
 
-// Writes a round's steps from step n on; where the next step goes. The words q start with the asked step.
-pub(crate) fn push(buf: &mut [u64], n: usize, q: &[u64], t: Turn) -> usize
-    requires { 4 * n + 8 ≤ length buf.old }
-    ensures { (result ≡ n + length (steps_of (step_at q.now) (of_turn t)))
-        × (take (4 * result) buf.new ≡ take (4 * n) buf.old ++ step_words (steps_of (step_at q.now) (of_turn t))) }
+// Adds a round's steps to the plan.
+#[tactic(auto, unfolding(plan_turn::specs::AsCoded::of_turn))]
+pub(crate) fn add(plan: &mut Steps, asked: Step, turn: Turn)
+    requires { length plan.old + 2 ≤ 144 }
+    ensures { plan.new ≡ plan.old ++ rules.steps_of (of_step asked) (of_turn turn) }
 {
-    let at = 4 * n;
-    let handle = word(q, 1);
-    match t {
-        Turn::Stuck => n,
-        Turn::Auto(kind) => {
-            four(buf, at, kind, 0, 0, 0);
-            n + 1
-        }
-        Turn::Element { mark, layers: _ } => {
-            four(buf, at, StepKind::ELEMENT, handle, mark, 0);
-            n + 1
+    match turn {
+        Turn::Auto(kind) => plan.push(Step::from([kind, 0, 0, 0])),
+        Turn::Element(mark) | Turn::ElementThrough(mark) => {
+            plan.push(Step::from([StepKind::ELEMENT, asked.handle, mark, 0]));
         }
         Turn::Desliced(mark) => {
-            four(buf, at, StepKind::AUTODESLICE, 0, mark, 0);
-            four(buf, at + 4, StepKind::ELEMENT, handle, Mark::NO, 0);
-            n + 2
+            plan.push(Step::from([StepKind::AUTODESLICE, 0, mark, 0]));
+            plan.push(Step::from([StepKind::ELEMENT, asked.handle, Mark::NO, 0]));
         }
-        Turn::Member => {
-            four(buf, at, word(q, 0), handle, word(q, 2), word(q, 3));
-            n + 1
-        }
+        Turn::Member => plan.push(asked),
     }
 }

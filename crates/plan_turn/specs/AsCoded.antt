@@ -7,7 +7,8 @@ use Rattle.plan_turn.specs.Turn.{Turn, Stuck, Auto, Element, Desliced, Member}
 -- What each case of the code is.
 unfoldable pub of_turn : code.Turn → Turn
 of_turn (coded.Auto k) = Auto k
-of_turn (coded.Element m l) = Element m l
+of_turn (coded.Element m) = Element m 1
+of_turn (coded.ElementThrough m) = Element m 2
 of_turn (coded.Desliced m) = Desliced m
 of_turn coded.Member = Member
 

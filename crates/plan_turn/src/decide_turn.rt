@@ -13,21 +13,15 @@ pub fn turn_of(k: u64, l: u64, asked: u64, mark: u64) -> Option<Turn>
 {
     match (asked, k) {
         (StepKind::ELEMENT, Kind::POINTER | Kind::VIEW) if l == Kind::ARRAYLIKE => {
-            Some(Turn::Element { mark, layers: 2 })
+            Some(Turn::ElementThrough(mark))
         }
         (_, Kind::POINTER) => Some(Turn::Auto(StepKind::AUTODEREF)),
         (_, Kind::VIEW) => Some(Turn::Auto(StepKind::AUTOVIEW)),
         (StepKind::ELEMENT, Kind::ARRAY | Kind::ARRAY_WITH_NAMED_LENGTH) => {
-            Some(Turn::Element {
-                mark: Mark::NO,
-                layers: 1,
-            })
+            Some(Turn::Element(Mark::NO))
         }
         (StepKind::ELEMENT, Kind::ENDLESS_ARRAY | Kind::ARRAYLIKE) => {
-            Some(Turn::Element {
-                mark: Mark::YES,
-                layers: 1,
-            })
+            Some(Turn::Element(Mark::YES))
         }
         (StepKind::ELEMENT, Kind::SLICE) => Some(Turn::Desliced(Mark::BY_VIEW)),
         (StepKind::ELEMENT, Kind::SLICE_POINTER) => Some(Turn::Desliced(Mark::BY_POINTER)),

@@ -1,25 +1,26 @@
-use Prim.Native.Nat.{◌*◌}
 use native.Mathlib.Omega.{arith}
-use lib.ListN.{length, take, length-replicate}
-use Rattle.plan_steps.specs.Steps.{step}
-use Rattle.plan_report.proofs.Delivering.{refuses}
-use Rattle.plan_rounds.proofs.Finishing.{whole-depth, extra-few, lead-few, body-whole, stops, goes-out}
+use lib.ListN.{length}
+use Rattle.std.proofs.lemmas.Result.{err_from_is_err_and}
+use Rattle.plan_rounds.proofs.Finishing.{hands-same, hands-refused, whole-depth, extra-few, lead-few, body-whole, fours, not-settled, settled}
 use Rattle.plan_rounds.proofs.finish.finish.Goals as goal
 
-pub returns-then-e : goal.returns-then-e
-returns-then-e c =
-    rw c.refuse.ensures (refuses _ c.ending_of-e.result.number 0 c.args.steps.now c.args.ty.now (stops c.args.cur.now c.args.target.now c.args.taken c.args.level (length c.args.steps.now) (length c.args.ty.now) c.settle-s.result c.depth.result c.ending_of-e.result c.settle-s.ensures c.depth.ensures c.ending_of-e.ensures (take (4 * c.args.n) c.args.buf.now) c.if-e.true))
+pub returns-in_err-settling : goal.returns-in_err-settling
+returns-in_err-settling c =
+    let p = err_from_is_err_and c.from_residual.result c.from_residual.ensures.1 in
+    hands-refused _ _ _ _ _ _ p.1 p.2
+    (not-settled c.args.cur.now c.args.question.now.target.now c.args.plan.now c.args.taken c.args.question.now.level (length c.args.steps.now) (length c.args.ty.now) _ c.from-level.ensures _ c.in_err-settling.ensures)
 
-pub push_autos-m-requires : goal.push_autos-m-requires
-push_autos-m-requires c =
-    omega (arith, c.requires.3, extra-few c.settle-s.result c.depth.result c.args.level c.ending_of-e.result c.ending_of-e.ensures (omega (arith, c.depth.ensures, whole-depth c.args.cur.now c.requires.0)))
+pub repeat-requires : goal.repeat-requires
+repeat-requires c =
+    omega (arith, c.requires.2, extra-few c.in_ok-settling.settling c.depth.result _ c.ending_of-ending.result c.ending_of-ending.ensures (omega (arith, c.depth.ensures, whole-depth c.args.cur.now c.requires.0)))
 
 pub deliver-requires : goal.deliver-requires
 deliver-requires c =
-    let few = extra-few c.settle-s.result c.depth.result c.args.level c.ending_of-e.result c.ending_of-e.ensures (omega (arith, c.depth.ensures, whole-depth c.args.cur.now c.requires.0)) in
-    let p = c.push_autos-m in
-    (omega (arith, p.ensures.0, length-replicate c.ending_of-e.result.extra (step c.ending_of-e.result.kind 0 0 0), p.auto.buf, c.requires.3, few), body-whole c.settle-s.result c.args.cur.now c.args.target.now c.body_of.result.now c.body_of.ensures c.requires.0 c.requires.1, lead-few c.settle-s.result c.depth.result c.args.level c.ending_of-e.result c.ending_of-e.ensures c.requires.2)
+    (fours _ _ c.words.ensures, body-whole _ _ _ _ c.body_of.ensures c.requires.0 c.requires.1, lead-few _ _ _ _ c.ending_of-ending.ensures (omega arith))
 
 pub returns : goal.returns
 returns c =
-    rw (goes-out c.args.cur.now c.args.target.now c.args.taken c.args.level (length c.args.steps.now) (length c.args.ty.now) c.settle-s.result c.depth.result c.ending_of-e.result c.settle-s.ensures c.depth.ensures c.ending_of-e.ensures c.args.buf.now c.push_autos-m.new.buf c.body_of.result.now c.args.n c.push_autos-m.result c.if-e.false (omega (arith, c.requires.3)) c.push_autos-m.ensures c.body_of.ensures) c.deliver.ensures
+    hands-same _ _ _ _ _ _ _
+    (settled c.args.cur.now c.args.question.now.target.now c.args.plan.now c.args.taken c.args.question.now.level (length c.args.steps.now) (length c.args.ty.now)
+    _ c.from-level.ensures _ _ _ _ _ _ _ c.in_ok-settling.ensures c.depth.ensures c.ending_of-ending.ensures c.from.ensures c.repeat.ensures c.words.ensures c.body_of.ensures)
+    c.deliver.ensures
