@@ -1,4 +1,3 @@
 -- What the proofs of several functions use.
 pub mod Where
-pub mod Asking
 pub mod Single

@@ -7,7 +7,7 @@ use borrow.Fn.Kinds.{Dens, res_t, ended_of}
 use Rattle.walker_rule.proofs.asked.asked_member.Kinds as asked-member-kinds
 use Rattle.walker_rule.proofs.asked.asked_member.Reads as asked-member
 
-pub asked-member-single : (κs : Lfts 2) (a : Dens κs asked-member-kinds.ps) (x y : (res_t asked-member-kinds.r κs).Denot)
-    (s t : AtExit (ended_of 2 asked-member-kinds.ps asked-member-kinds.r) κs) →
+pub asked-member-single : (κs : Lfts 3) (a : Dens κs asked-member-kinds.ps) (x y : (res_t asked-member-kinds.r κs).Denot)
+    (s t : AtExit (ended_of 3 asked-member-kinds.ps asked-member-kinds.r) κs) →
     asked-member.Post κs a x s → asked-member.Post κs a y t → x.now ≡ y.now
 asked-member-single κs a x y s t p q = p ∙ sym q

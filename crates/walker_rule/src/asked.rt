@@ -1,16 +1,19 @@
 ghost use Rattle.std.specs.Prelude.{◌≡◌};
 ghost use Rattle.walker_rule.specs.AsCoded.{asked_in};
 
-use symbol_columns::Columns;
+use plan_steps::Step;
+use symbol_columns::Table;
 use symbol_members::member;
 use type_numbers::StepKind;
 
 // The words of a member's type where the step is a Member; else no words.
-pub fn asked_member<'a>(flat: &Columns, n: usize, store: &'a [u64], kind: u64, id: u64) -> &'a [u64]
-    ensures { result.now ≡ asked_in flat.now n store.now kind id }
+#[tactic(auto, unfolding(crate::specs::AsCoded::asked_in))]
+pub fn asked_member<'s>(table: &Table<'_, 's>, step: Step) -> &'s [u64]
+    ensures { result.now ≡ asked_in table.now.columns.now table.now.count table.now.store.now step.kind step.handle }
 {
-    if kind == StepKind::MEMBER {
-        return member(flat, n, store, id);
+    let store = table.store;
+    match step.kind {
+        StepKind::MEMBER => member(table, step.handle),
+        _ => &store[..0],
     }
-    &store[..0]
 }
