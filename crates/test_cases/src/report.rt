@@ -1,148 +1,141 @@
-use relation_questions::CoercionAnswer;
+use relation_coerces::Coercion;
 use std::io;
-use type_bounds::Bound;
-use type_layers::{Checked, Verdict};
-use type_part_starts::{Part, Start};
-use type_properties::Property;
-use type_roles::Role;
-use type_size_and_depth::{Count, Size};
+use type_bounds::{Halves, max_u128, min_i128};
+use type_first_refusal::check_type;
+use type_layers::Refused;
+use type_part_starts::{Part, start_of};
+use type_properties::{Property, has};
+use type_roles::{Role, can_be};
+use type_size_and_depth::{known_size_in_bytes_as_word_member, pointer_depth};
+use type_stored_size::stored_size;
+use type_wellformed::wellformed;
 
-pub(crate) fn text(rt: &impl Print, s: &[u8]) -> io::Result<()> {
-    rt.write_all(s)
+// How an answer is written: a value behind a space, or the refusal's number and place.
+pub(crate) trait Show {
+    fn show(self, rt: &impl Print) -> io::Result<()>;
 }
 
-pub(crate) fn given(rt: &impl Print, n: u64) -> io::Result<()> {
-    print!(rt; " {n}")
-}
-
-fn refused(rt: &impl Print, number: u64, place: u64) -> io::Result<()> {
-    print!(rt; " !{number}@{place}")
-}
-
-pub(crate) fn checked(rt: &impl Print, c: Checked) -> io::Result<()> {
-    match c {
-        Checked::Good(n) => given(rt, n),
-        Checked::Refused { number, place } => refused(rt, number, place),
+impl Show for u64 {
+    fn show(self, rt: &impl Print) -> io::Result<()> {
+        print!(rt; " {self}")
     }
 }
 
-pub(crate) fn verdict(rt: &impl Print, v: Verdict) -> io::Result<()> {
-    match v {
-        Verdict::Yes => given(rt, 1),
-        Verdict::No => given(rt, 0),
-        Verdict::Refused { number, place } => refused(rt, number, place),
+impl Show for bool {
+    fn show(self, rt: &impl Print) -> io::Result<()> {
+        u64::from(self).show(rt)
     }
 }
 
-pub(crate) fn coercion(rt: &impl Print, c: CoercionAnswer) -> io::Result<()> {
-    match c {
-        CoercionAnswer::Given(way) => given(rt, way.number()),
-        CoercionAnswer::Refused { number, place } => refused(rt, number, place),
+impl Show for Coercion {
+    fn show(self, rt: &impl Print) -> io::Result<()> {
+        u64::from(self).show(rt)
     }
 }
 
-fn start(rt: &impl Print, s: Start) -> io::Result<()> {
-    match s {
-        Start::At(n) => given(rt, n),
-        Start::Nothing => text(rt, b" -"),
-        Start::Refused { number, place } => refused(rt, number, place),
+impl Show for Halves {
+    fn show(self, rt: &impl Print) -> io::Result<()> {
+        print!(rt; " {:x}:{:x}", self.high, self.low)
     }
 }
 
-pub(crate) fn size(rt: &impl Print, s: Size) -> io::Result<()> {
-    match s {
-        Size::Bytes(n) => given(rt, n),
-        Size::Nothing => text(rt, b" -"),
-        Size::Refused { number, place } => refused(rt, number, place),
+impl<T: Show> Show for Option<T> {
+    fn show(self, rt: &impl Print) -> io::Result<()> {
+        match self {
+            Some(value) => value.show(rt),
+            None => print!(rt; " -"),
+        }
     }
 }
 
-fn count(rt: &impl Print, c: Count) -> io::Result<()> {
-    match c {
-        Count::Of(n) => given(rt, n),
-        Count::Refused { number, place } => refused(rt, number, place),
+impl<T: Show> Show for Result<T, Refused> {
+    fn show(self, rt: &impl Print) -> io::Result<()> {
+        match self {
+            Ok(value) => value.show(rt),
+            Err(e) => print!(rt; " !{}@{}", u64::from(e.refusal), e.place),
+        }
     }
 }
 
-fn bound(rt: &impl Print, b: Bound) -> io::Result<()> {
-    match b {
-        Bound::Value { low, high } => print!(rt; " {high:x}:{low:x}"),
-        Bound::Refused { number, place } => refused(rt, number, place),
+fn properties(rt: &impl Print, t: &[u64]) -> io::Result<()> {
+    wellformed(t).show(rt)?;
+    for property in [
+        Property::Void,
+        Property::Integral,
+        Property::Signed,
+        Property::Bitfield,
+        Property::SlicePointer,
+    ] {
+        has(property, t).show(rt)?;
     }
+    Ok(())
 }
 
-fn properties(rt: &impl Print, ws: &[u64]) -> io::Result<()> {
-    verdict(rt, type_wellformed::wellformed(ws))?;
-    verdict(rt, type_properties::has(Property::Void, ws))?;
-    verdict(rt, type_properties::has(Property::Integral, ws))?;
-    verdict(rt, type_properties::has(Property::Signed, ws))?;
-    verdict(rt, type_properties::has(Property::Bitfield, ws))?;
-    verdict(rt, type_properties::has(Property::SlicePointer, ws))
+fn roles(rt: &impl Print, t: &[u64]) -> io::Result<()> {
+    print!(rt; " |")?;
+    for role in [
+        Role::Sized,
+        Role::StructMember,
+        Role::WordMember,
+        Role::Constant,
+        Role::Variable,
+        Role::Parameter,
+        Role::Returned,
+    ] {
+        can_be(role, t).show(rt)?;
+    }
+    Ok(())
 }
 
-fn uses(rt: &impl Print, ws: &[u64]) -> io::Result<()> {
-    text(rt, b" |")?;
-    verdict(rt, type_roles::can_be(Role::Sized, ws))?;
-    verdict(rt, type_roles::can_be(Role::StructMember, ws))?;
-    verdict(rt, type_roles::can_be(Role::WordMember, ws))?;
-    verdict(rt, type_roles::can_be(Role::Constant, ws))?;
-    verdict(rt, type_roles::can_be(Role::Variable, ws))?;
-    verdict(rt, type_roles::can_be(Role::Parameter, ws))?;
-    verdict(rt, type_roles::can_be(Role::Returned, ws))
+fn starts(rt: &impl Print, t: &[u64]) -> io::Result<()> {
+    print!(rt; " |")?;
+    for part in [
+        Part::Element,
+        Part::Pointee,
+        Part::Viewee,
+        Part::Dereferenced,
+    ] {
+        start_of(part, t).show(rt)?;
+    }
+    Ok(())
 }
 
-fn starts(rt: &impl Print, ws: &[u64]) -> io::Result<()> {
-    text(rt, b" |")?;
-    start(rt, type_part_starts::start_of(Part::Element, ws))?;
-    start(rt, type_part_starts::start_of(Part::Pointee, ws))?;
-    start(rt, type_part_starts::start_of(Part::Viewee, ws))?;
-    start(rt, type_part_starts::start_of(Part::Dereferenced, ws))
-}
-
-fn measures(rt: &impl Print, ws: &[u64]) -> io::Result<()> {
-    text(rt, b" |")?;
-    size(
-        rt,
-        type_size_and_depth::known_size_in_bytes_as_word_member(ws),
-    )?;
-    count(rt, type_size_and_depth::pointer_depth(ws))?;
-    bound(rt, type_bounds::min_i128(ws))?;
-    bound(rt, type_bounds::max_u128(ws))?;
-    size(rt, type_stored_size::stored_size(ws, 4))?;
-    size(rt, type_stored_size::stored_size(ws, 8))
+fn measures(rt: &impl Print, t: &[u64]) -> io::Result<()> {
+    print!(rt; " |")?;
+    known_size_in_bytes_as_word_member(t).show(rt)?;
+    pointer_depth(t).show(rt)?;
+    min_i128(t).show(rt)?;
+    max_u128(t).show(rt)?;
+    for width in [4, 8] {
+        stored_size(t, width).show(rt)?;
+    }
+    Ok(())
 }
 
 pub(crate) fn heading(rt: &impl Print) -> io::Result<()> {
-    text(
-        rt,
-        b"words: layers wellformed void integral signed bitfield slice_pointer",
-    )?;
-    text(
-        rt,
-        b" | sized struct_member word_member constant variable parameter returned",
-    )?;
-    text(rt, b" | element pointee viewee dereferenced")?;
-    text(rt, b" | known depth min max stored_with_4 stored_with_8\n")
+    print!(rt; "words: layers wellformed void integral signed bitfield slice_pointer")?;
+    print!(rt; " | sized struct_member word_member constant variable parameter returned")?;
+    print!(rt; " | element pointee viewee dereferenced")?;
+    println!(rt; " | known depth min max stored_with_4 stored_with_8")
 }
 
-// One line: how many words, the first layer, the second's kind, and every answer.
-pub(crate) fn report(rt: &impl Print, ws: &[u64]) -> io::Result<()> {
-    print!(rt; "{}", ws.len())?;
-    if ws.len() >= 3 {
-        print!(rt; " ({}", ws[0])?;
-        given(rt, ws[1])?;
-        given(rt, ws[2])?;
-        if ws.len() >= 6 {
-            text(rt, b" of")?;
-            given(rt, ws[3])?;
-        }
-        text(rt, b")")?;
+// How many words, the first layer and the second's kind.
+fn label(rt: &impl Print, t: &[u64]) -> io::Result<()> {
+    print!(rt; "{}", t.len())?;
+    match t {
+        [k, name, number, inner, _, _, ..] => print!(rt; " ({k} {name} {number} of {inner}):"),
+        [k, name, number, ..] => print!(rt; " ({k} {name} {number}):"),
+        _ => print!(rt; ":"),
     }
-    text(rt, b":")?;
-    checked(rt, type_first_refusal::check_type(ws))?;
-    properties(rt, ws)?;
-    uses(rt, ws)?;
-    starts(rt, ws)?;
-    measures(rt, ws)?;
-    text(rt, b"\n")
+}
+
+// One line: what the words are, and every answer.
+pub(crate) fn report(rt: &impl Print, t: &[u64]) -> io::Result<()> {
+    label(rt, t)?;
+    check_type(t).show(rt)?;
+    properties(rt, t)?;
+    roles(rt, t)?;
+    starts(rt, t)?;
+    measures(rt, t)?;
+    println!(rt)
 }

@@ -1,101 +1,70 @@
 use type_numbers::Kind;
 
+// A layer of a type: its kind, a name and a number.
+pub(crate) type Layer = [u64; 3];
+
+pub(crate) const VOID: Layer = [Kind::VOID, 0, 0];
+
+pub(crate) const INT32: Layer = [Kind::INT32, 0, 0];
+
+pub(crate) const POINTER: Layer = [Kind::POINTER, 0, 0];
+
+pub(crate) const VIEW: Layer = [Kind::VIEW, 0, 0];
+
+pub(crate) const SLICE: Layer = [Kind::SLICE, 0, 0];
+
+pub(crate) const SLICE_POINTER: Layer = [Kind::SLICE_POINTER, 0, 0];
+
+// The first number that is no kind.
+pub(crate) const NO_KIND: u64 = 25;
+
+const INT8: Layer = [Kind::INT8, 0, 0];
+
+const UINT8: Layer = [Kind::UINT8, 0, 0];
+
+const BOOL: Layer = [Kind::BOOL, 0, 0];
+
+const CHAR8: Layer = [Kind::CHAR8, 0, 0];
+
+const ENDLESS_ARRAY: Layer = [Kind::ENDLESS_ARRAY, 0, 0];
+
+const ARRAYLIKE: Layer = [Kind::ARRAYLIKE, 0, 0];
+
 // How many types are held against each other.
-pub(crate) const TYPES: usize = 24;
+pub(crate) const RELATED: usize = 24;
 
-// How many are fixed: those, and some more.
-pub(crate) const FIXED: usize = 32;
-
-// A type of at most three layers: its words, and how many there are.
-#[derive(Clone, Copy)]
-pub(crate) struct Type {
-    pub words: [u64; 9],
-    pub count: usize,
-}
-
-fn leaf(k: u64, name: u64, number: u64) -> Type {
-    Type {
-        words: [k, name, number, 0, 0, 0, 0, 0, 0],
-        count: 3,
-    }
-}
-
-fn one(k: u64, name: u64, number: u64, l: u64) -> Type {
-    Type {
-        words: [k, name, number, l, 0, 0, 0, 0, 0],
-        count: 6,
-    }
-}
-
-fn two(k: u64, l: u64, m: u64) -> Type {
-    Type {
-        words: [k, 0, 0, l, 0, 0, m, 0, 0],
-        count: 9,
-    }
-}
-
-fn leaves(i: usize) -> Type {
-    match i {
-        0 => leaf(Kind::VOID, 0, 0),
-        1 => leaf(Kind::INT32, 0, 0),
-        2 => leaf(Kind::UINT8, 0, 0),
-        3 => leaf(Kind::CHAR8, 0, 0),
-        4 => leaf(Kind::STRUCT, 5, 0),
-        5 => leaf(Kind::WORD, 5, 8),
-        6 => leaf(Kind::UNRESOLVED_STRUCT_OR_WORD, 0, 0),
-        _ => leaf(Kind::UNRESOLVED_STRUCT_OR_WORD, 5, 1),
-    }
-}
-
-fn arrays(i: usize) -> Type {
-    match i {
-        8 => one(Kind::ARRAY, 0, 3, Kind::CHAR8),
-        9 => one(Kind::ARRAY, 0, 3, Kind::UINT8),
-        10 => one(Kind::ARRAY, 0, 4, Kind::CHAR8),
-        11 => one(Kind::ARRAY_WITH_NAMED_LENGTH, 7, 0, Kind::CHAR8),
-        12 => one(Kind::SLICE, 0, 0, Kind::CHAR8),
-        13 => one(Kind::SLICE_POINTER, 0, 0, Kind::CHAR8),
-        14 => one(Kind::ENDLESS_ARRAY, 0, 0, Kind::CHAR8),
-        _ => one(Kind::ARRAYLIKE, 0, 0, Kind::CHAR8),
-    }
-}
-
-fn references(i: usize) -> Type {
-    match i {
-        16 => one(Kind::POINTER, 0, 0, Kind::CHAR8),
-        17 => one(Kind::VIEW, 0, 0, Kind::INT32),
-        18 => two(Kind::POINTER, Kind::ARRAYLIKE, Kind::CHAR8),
-        19 => two(Kind::POINTER, Kind::ENDLESS_ARRAY, Kind::UINT8),
-        20 => two(Kind::VIEW, Kind::ENDLESS_ARRAY, Kind::CHAR8),
-        21 => two(Kind::VIEW, Kind::POINTER, Kind::INT32),
-        22 => two(Kind::POINTER, Kind::INT32, Kind::INT32),
-        _ => one(Kind::POINTER, 0, 0, 25),
-    }
-}
-
-fn arraylikes(i: usize) -> Type {
-    match i {
-        24 => one(Kind::ARRAYLIKE, 0, 0, Kind::BOOL),
-        25 => one(Kind::ARRAYLIKE, 0, 0, Kind::VOID),
-        26 => two(Kind::ARRAYLIKE, Kind::ARRAYLIKE, Kind::INT8),
-        27 => two(Kind::ARRAYLIKE, Kind::VIEW, Kind::INT8),
-        28 => two(Kind::ARRAYLIKE, Kind::SLICE, Kind::INT8),
-        29 => two(Kind::ARRAYLIKE, Kind::ENDLESS_ARRAY, Kind::INT8),
-        30 => two(Kind::POINTER, Kind::ARRAYLIKE, Kind::BOOL),
-        _ => two(Kind::VIEW, Kind::VIEW, Kind::INT8),
-    }
-}
-
-// The types by their number; 22 and 23 are none: a leaf early, and a bad layer.
-pub(crate) fn type_at(i: usize) -> Type {
-    if i < 8 {
-        return leaves(i);
-    }
-    if i < 16 {
-        return arrays(i);
-    }
-    if i < TYPES {
-        return references(i);
-    }
-    arraylikes(i)
-}
+// The types that are fixed; 22 and 23 are none: a leaf early, and a bad layer.
+pub(crate) const TYPES: [&[Layer]; 32] = [
+    &[VOID],
+    &[INT32],
+    &[UINT8],
+    &[CHAR8],
+    &[[Kind::STRUCT, 5, 0]],
+    &[[Kind::WORD, 5, 8]],
+    &[[Kind::UNRESOLVED_STRUCT_OR_WORD, 0, 0]],
+    &[[Kind::UNRESOLVED_STRUCT_OR_WORD, 5, 1]],
+    &[[Kind::ARRAY, 0, 3], CHAR8],
+    &[[Kind::ARRAY, 0, 3], UINT8],
+    &[[Kind::ARRAY, 0, 4], CHAR8],
+    &[[Kind::ARRAY_WITH_NAMED_LENGTH, 7, 0], CHAR8],
+    &[SLICE, CHAR8],
+    &[SLICE_POINTER, CHAR8],
+    &[ENDLESS_ARRAY, CHAR8],
+    &[ARRAYLIKE, CHAR8],
+    &[POINTER, CHAR8],
+    &[VIEW, INT32],
+    &[POINTER, ARRAYLIKE, CHAR8],
+    &[POINTER, ENDLESS_ARRAY, UINT8],
+    &[VIEW, ENDLESS_ARRAY, CHAR8],
+    &[VIEW, POINTER, INT32],
+    &[POINTER, INT32, INT32],
+    &[POINTER, [NO_KIND, 0, 0]],
+    &[ARRAYLIKE, BOOL],
+    &[ARRAYLIKE, VOID],
+    &[ARRAYLIKE, ARRAYLIKE, INT8],
+    &[ARRAYLIKE, VIEW, INT8],
+    &[ARRAYLIKE, SLICE, INT8],
+    &[ARRAYLIKE, ENDLESS_ARRAY, INT8],
+    &[POINTER, ARRAYLIKE, BOOL],
+    &[VIEW, VIEW, INT8],
+];
