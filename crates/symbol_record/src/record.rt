@@ -3,16 +3,21 @@ ghost use Rattle.symbol_operations.specs.AsCoded.{of_act};
 ghost use Rattle.symbol_record.specs.Deed as rules;
 ghost use Rattle.symbol_record.specs.AsCoded as as-coded;
 
-use symbol_columns::Symbol;
-use symbol_operations::{Act, offers_type};
-use symbol_update::{Updated, typed, update};
+use symbol_columns::{Identifier, Symbol};
+use symbol_operations::Act;
+use symbol_update::{typed, update};
+use type_layers::Refused;
 use type_numbers::{Effect, State};
-use write_answer::accepted;
 use write_words::write_words;
 
-fn poisoned(id: u32, authority: bool, place: u64, mark: u64) -> Symbol
-    ensures { result ≡ rules.poisoned id authority place mark }
+fn poisoned(name: Identifier, mark: u64) -> Symbol
+    ensures { result ≡ rules.poisoned name.id name.authority name.place mark }
 {
+    let Identifier {
+        id,
+        authority,
+        place,
+    } = name;
     Symbol {
         id,
         authority,
@@ -24,57 +29,45 @@ fn poisoned(id: u32, authority: bool, place: u64, mark: u64) -> Symbol
 }
 
 // The record of a type, whose words are written, or of poison.
-pub fn fill(
-    act: Act,
-    words: &mut [u64],
-    id: u32,
-    authority: bool,
-    place: u64,
-    mark: u64,
-    offered: &[u64],
-) -> Symbol
-    ensures { (result ≡ rules.filled (of_act act) id authority place mark offered.now)
+pub fn fill(act: Act, words: &mut [u64], name: Identifier, mark: u64, offered: &[u64]) -> Symbol
+    ensures { (result ≡ rules.filled (of_act act) name.id name.authority name.place mark offered.now)
         × (words.new ≡ rules.filled_words (of_act act) offered.now words.old) }
 {
-    if offers_type(act) {
+    if act.offers_type() {
         write_words(words, offered);
-        typed(id, authority, place, offered)
+        typed(name, offered)
     } else {
-        poisoned(id, authority, place, mark)
+        poisoned(name, mark)
     }
 }
 
 // What an act does to a record that has the id, and to its words.
 pub fn overwrite(
     act: Act,
-    s: Symbol,
+    symbol: &mut Symbol,
     words: &mut [u64],
-    id: u32,
-    authority: bool,
-    place: u64,
+    name: Identifier,
     mark: u64,
     offered: &[u64],
-) -> Updated
+) -> Result<Effect, Refused>
     ensures { as-coded.Does
-        (rules.overwrites (of_act act) s words.old id authority place mark offered.now)
-        result words.new }
+        (rules.overwrites (of_act act)
+        symbol.old words.old name.id name.authority name.place mark offered.now)
+        result symbol.new words.new }
 {
+    let kept = Identifier {
+        id: symbol.id,
+        authority: symbol.authority,
+        place: symbol.place,
+    };
     match act {
-        Act::PutPoison => Updated {
-            symbol: poisoned(s.id, s.authority, s.place, mark),
-            answer: accepted(Effect::OVERWRITTEN),
-        },
-        Act::PutType => update(s, words, id, authority, place, offered),
-        Act::ForwardPoison => Updated {
-            symbol: poisoned(id, authority, place, mark),
-            answer: accepted(Effect::OVERWRITTEN),
-        },
+        Act::PutPoison => *symbol = poisoned(kept, mark),
+        Act::PutType => return update(symbol, words, name, offered),
+        Act::ForwardPoison => *symbol = poisoned(name, mark),
         Act::ForwardType => {
             write_words(words, offered);
-            Updated {
-                symbol: typed(id, authority, place, offered),
-                answer: accepted(Effect::OVERWRITTEN),
-            }
+            *symbol = typed(name, offered);
         }
     }
+    Ok(Effect::Overwritten)
 }
