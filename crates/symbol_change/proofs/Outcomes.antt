@@ -3,9 +3,9 @@
 use mathlib.Core.Path.{◌≡◌, refl, sym, ap, subst, ◌∙◌}
 use mathlib.Core.Bool.{Bool, true, false, cond, not, true≢false}
 use mathlib.Core.List.{List, [], ◌∷◌}
-use Prim.Native.Nat.{ℕ, zero, suc}
-use native.Mathlib.Omega.{arith}
-use lib.Dec.{T, eqb, leb, leb→le, nleb→lt}
+use Prim.Native.Nat.{ℕ, zero, suc, ◌<◌}
+use Rattle.std.proofs.Common.{Some, None}
+use lib.Dec.{eqb}
 use lib.ListN.{length, get_or, set}
 use borrow.Author.Tests.{eqb-true}
 use Rattle.symbol_columns.specs.declared.symbol.Symbol.{Symbol}
@@ -22,10 +22,8 @@ use Rattle.symbol_slot.specs.Way.{Way}
 use Rattle.symbol_slot.specs.Slot.{way_of}
 use Rattle.symbol_slot.proofs.Decided.{found_in, new_in}
 use Rattle.symbol_record.specs.Deed.{Deed, overwrites}
-use Rattle.symbol_record.specs.AsCoded.{seen}
 use Rattle.symbol_change.specs.Change.{outcome_by, outcome}
-use Rattle.symbol_change.specs.AsCoded.{nowhere, in_slot, is_changed, change_by, change_of, store_of}
-use Rattle.symbol_change.specs.declared.change.Change.{Change}
+use Rattle.symbol_change.specs.AsCoded.{Chosen, nowhere, in_slot, is_changed, change_by, change_of, store_of}
 
 -- a list with one of its elements put in its place
 set_same : {A : Type 0} (l : List A) (i : ℕ) (d : A) → set l i (get_or l i d) ≡ l
@@ -41,9 +39,12 @@ not-changed a e h = by_value (eqb a.value 0) refl (rw h at e)
     by_value true f g = eqb-true a.value 0 f
     by_value false f g = absurd (true≢false g)
 
+some-is : (x y : ℕ × Symbol) → Some x ≡ Some y → x ≡ y
+some-is x y e = cc
+
 -- an act
 module _ (a : Act) (id : ℕ) (authority : Bool) (place mark : ℕ) (offered : List ℕ) (table : List Symbol) (store : List ℕ) where
-  abbrev by : Way → Change
+  abbrev by : Way → Chosen
   by w = change_by w a id authority place mark offered table store
 
   abbrev done : ℕ → Deed
@@ -53,7 +54,7 @@ module _ (a : Act) (id : ℕ) (authority : Bool) (place mark : ℕ) (offered : L
   answer-by (way.refused n p) = refl
   answer-by (way.found k) = by-test (is_changed (done k).answer)
     where
-      by-test : (t : Bool) → (cond t (in_slot k (seen (done k))) (nowhere (length table) (done k).answer)).answer ≡ (done k).answer
+      by-test : (t : Bool) → (cond t (in_slot k (done k).symbol (done k).answer) (nowhere (done k).answer)).answer ≡ (done k).answer
       by-test true = refl
       by-test false = refl
   answer-by (way.free k) = refl
@@ -67,37 +68,46 @@ module _ (a : Act) (id : ℕ) (authority : Bool) (place mark : ℕ) (offered : L
   same-record act.forward_poison s ws e = absurd (true≢false e)
   same-record act.forward_type s ws e = absurd (true≢false e)
 
-  inside-or : (w : Way) → way_of a id offered table store ≡ w → T (leb (length table) (by w).slot) →
-      table ≡ (outcome_by w a id authority place mark offered table store).table
-  inside-or (way.refused n p) e out = refl
-  inside-or (way.found k) e out = by-test (is_changed (done k).answer) refl out
+  -- where no record is stored, the table is what it was
+  kept-by : (w : Way) → (by w).stored ≡ None → table ≡ (outcome_by w a id authority place mark offered table store).table
+  kept-by (way.refused n p) q = refl
+  kept-by (way.found k) q = by-test (is_changed (done k).answer) refl q
     where
       by-test : (t : Bool) → is_changed (done k).answer ≡ t →
-          T (leb (length table) (cond t (in_slot k (seen (done k))) (nowhere (length table) (done k).answer)).slot) →
-          table ≡ set table k (done k).symbol
-      by-test true f g = absurd (omega (arith, leb→le (length table) k g, (found_in a id offered table store k e).below))
+          (cond t (in_slot k (done k).symbol (done k).answer) (nowhere (done k).answer)).stored ≡ None → table ≡ set table k (done k).symbol
+      by-test true f g = cc
       by-test false f g = sym (ap (set table k) (same-record a (get_or table k vacant) (slot_words store k) f) ∙ set_same table k vacant)
-  inside-or (way.free k) e out = absurd (omega (arith, leb→le (length table) k out, (new_in a id offered table store k e).below))
+  kept-by (way.free k) q = cc
 
-  set-by : (w : Way) → T (not (leb (length table) (by w).slot)) →
-      set table (by w).slot (by w).symbol ≡ (outcome_by w a id authority place mark offered table store).table
-  set-by (way.refused n p) inside = absurd (omega (arith, nleb→lt (length table) (length table) inside))
-  set-by (way.found k) inside = by-test (is_changed (done k).answer) inside
-    where
-      by-test : (t : Bool) → T (not (leb (length table) (cond t (in_slot k (seen (done k))) (nowhere (length table) (done k).answer)).slot)) →
-          set table (cond t (in_slot k (seen (done k))) (nowhere (length table) (done k).answer)).slot
-          (cond t (in_slot k (seen (done k))) (nowhere (length table) (done k).answer)).symbol ≡ set table k (done k).symbol
-      by-test true f = refl
-      by-test false f = absurd (omega (arith, nleb→lt (length table) (length table) f))
-  set-by (way.free k) inside = refl
+  -- where one is, it is stored in its slot, which is within the table
+  module _ (k : ℕ) (s : Symbol) where
+    set-by : (w : Way) → (by w).stored ≡ Some (k, s) → set table k s ≡ (outcome_by w a id authority place mark offered table store).table
+    set-by (way.refused n p) q = cc
+    set-by (way.found j) q = by-test (is_changed (done j).answer) q
+      where
+        by-test : (t : Bool) → (cond t (in_slot j (done j).symbol (done j).answer) (nowhere (done j).answer)).stored ≡ Some (k, s) →
+            set table k s ≡ set table j (done j).symbol
+        by-test true f = sym (ap (λ (x : ℕ × Symbol). set table x.0 x.1) (some-is (j, (done j).symbol) (k, s) f))
+        by-test false f = cc
+    set-by (way.free j) q = sym (ap (λ (x : ℕ × Symbol). set table x.0 x.1) (some-is _ (k, s) q))
+
+    within-by : (w : Way) → way_of a id offered table store ≡ w → (by w).stored ≡ Some (k, s) → k < length table
+    within-by (way.refused n p) e q = cc
+    within-by (way.found j) e q = by-test (is_changed (done j).answer) q
+      where
+        by-test : (t : Bool) → (cond t (in_slot j (done j).symbol (done j).answer) (nowhere (done j).answer)).stored ≡ Some (k, s) → k < length table
+        by-test true f = subst (λ (x : ℕ × Symbol). x.0 < length table) (some-is (j, (done j).symbol) (k, s) f) (found_in a id offered table store j e).below
+        by-test false f = cc
+    within-by (way.free j) e q =
+        subst (λ (x : ℕ × Symbol). x.0 < length table) (some-is _ (k, s) q) (new_in a id offered table store j e).below
 
 module _ (op : Operation) (id : ℕ) (authority : Bool) (place mark : ℕ) (offered : List ℕ) (table : List Symbol) (store : List ℕ) where
-  abbrev change : Operation → Change
+  abbrev change : Operation → Chosen
   change o = change_of o id authority place mark offered table store
 
-  pub answer-is : (r : Change) → r ≡ change op → r.answer ≡ (outcome op id authority place mark offered table store).answer
+  pub answer-is : (change op).answer ≡ (outcome op id authority place mark offered table store).answer
   unfolding change_of outcome
-  answer-is r e = ap (λ (c : Change). c.answer) e ∙ by-operation op
+  answer-is = by-operation op
     where
       by-operation : (o : Operation) → (change o).answer ≡ (outcome o id authority place mark offered table store).answer
       by-operation put_nothing = refl
@@ -107,23 +117,27 @@ module _ (op : Operation) (id : ℕ) (authority : Bool) (place mark : ℕ) (offe
   unfolding store_of
   store_is = refl
 
-  pub table_kept : (r : Change) → r ≡ change op → T (leb (length table) r.slot) →
-      table ≡ (outcome op id authority place mark offered table store).table
+  pub table_kept : (change op).stored ≡ None → table ≡ (outcome op id authority place mark offered table store).table
   unfolding change_of outcome
-  table_kept r e out = by-operation op (subst (λ (c : Change). T (leb (length table) c.slot)) e out)
+  table_kept = by-operation op
     where
-      by-operation : (o : Operation) → T (leb (length table) (change o).slot) → table ≡ (outcome o id authority place mark offered table store).table
-      by-operation put_nothing p = refl
-      by-operation (acts a) p = inside-or a id authority place mark offered table store (way_of a id offered table store) refl p
+      by-operation : (o : Operation) → (change o).stored ≡ None → table ≡ (outcome o id authority place mark offered table store).table
+      by-operation put_nothing q = refl
+      by-operation (acts a) q = kept-by a id authority place mark offered table store (way_of a id offered table store) q
 
-  pub table-set : (r : Change) → r ≡ change op → T (not (leb (length table) r.slot)) →
-      set table r.slot r.symbol ≡ (outcome op id authority place mark offered table store).table
-  unfolding change_of outcome
-  table-set r e inside =
-      ap (λ (c : Change). set table c.slot c.symbol) e
-      ∙ by-operation op (subst (λ (c : Change). T (not (leb (length table) c.slot))) e inside)
-    where
-      by-operation : (o : Operation) → T (not (leb (length table) (change o).slot)) →
-          set table (change o).slot (change o).symbol ≡ (outcome o id authority place mark offered table store).table
-      by-operation put_nothing p = absurd (omega (arith, nleb→lt (length table) (length table) p))
-      by-operation (acts a) p = set-by a id authority place mark offered table store (way_of a id offered table store) p
+  module _ (k : ℕ) (s : Symbol) where
+    pub table_set : (change op).stored ≡ Some (k, s) → set table k s ≡ (outcome op id authority place mark offered table store).table
+    unfolding change_of outcome
+    table_set = by-operation op
+      where
+        by-operation : (o : Operation) → (change o).stored ≡ Some (k, s) → set table k s ≡ (outcome o id authority place mark offered table store).table
+        by-operation put_nothing q = cc
+        by-operation (acts a) q = set-by a id authority place mark offered table store k s (way_of a id offered table store) q
+
+    pub stored_within : (change op).stored ≡ Some (k, s) → k < length table
+    unfolding change_of
+    stored_within = by-operation op
+      where
+        by-operation : (o : Operation) → (change o).stored ≡ Some (k, s) → k < length table
+        by-operation put_nothing q = cc
+        by-operation (acts a) q = within-by a id authority place mark offered table store k s (way_of a id offered table store) refl q

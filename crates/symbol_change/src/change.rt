@@ -1,135 +1,117 @@
-ghost use Rattle.std.specs.Prelude.{◌≡◌};
+ghost use Rattle.std.specs.Prelude.{◌≡◌, Ok};
+ghost use Rattle.type_numbers.specs.Effect as effects;
 ghost use Rattle.symbol_columns.specs.AsCoded.{read_from};
+ghost use Rattle.symbol_columns.specs.Table.{records};
+ghost use Rattle.write_answer.specs.Flat.{accepted};
 ghost use Rattle.symbol_operations.specs.Operation.{acts};
 ghost use Rattle.symbol_operations.specs.AsCoded.{of_act, of_operation};
 ghost use Rattle.symbol_change.specs.Change as rules;
 ghost use Rattle.symbol_change.specs.AsCoded as as-coded;
 
-use symbol_columns::{Columns, Symbol, row};
-use symbol_operations::{Act, Asked, Operation, act_of};
+use symbol_columns::{Columns, Identifier, Symbol, Table, row};
+use symbol_operations::{Act, Operation};
 use symbol_order::in_order;
 use symbol_record::{fill, overwrite};
 use symbol_slot::{Way, way_of};
-use symbol_update::Updated;
-use type_numbers::{Effect, Limit, Refusal, State};
-use write_answer::{Answer, accepted, refused};
+use type_layers::Refused;
+use type_numbers::{Effect, Limit, Refusal};
 
-// A slot and its new record, with the answer. Past the last slot: no record is stored.
+// What was done, and the record to store, if any, with its slot.
 #[derive(Clone, Copy)]
 pub struct Change {
-    pub slot: usize,
-    pub symbol: Symbol,
-    pub answer: Answer,
-}
-
-fn nowhere(n: usize, answer: Answer) -> Change
-    ensures { result ≡ as-coded.nowhere n answer }
-{
-    let s = Symbol {
-        id: 0,
-        authority: false,
-        place: 0,
-        state: State::FREE,
-        layers: 0,
-        mark: 0,
-    };
-    Change {
-        slot: n,
-        symbol: s,
-        answer,
-    }
-}
-
-fn is_changed(a: Answer) -> bool
-    ensures { result ≡ as-coded.is_changed a }
-{
-    (a.refusal == 0) & (a.value != Effect::KEPT)
+    pub effect: Effect,
+    pub stored: Option<(usize, Symbol)>,
 }
 
 // What became of the record that was found.
-fn if_changed(n: usize, slot: usize, u: Updated) -> Change
-    ensures { result ≡ as-coded.if_changed n slot u }
+fn if_changed(slot: usize, symbol: Symbol, effect: Effect) -> Change
+    ensures { as-coded.of_change (Ok result)
+        ≡ as-coded.if_changed slot symbol (accepted (effects.number_of effect)) }
 {
-    let symbol = u.symbol;
-    let answer = u.answer;
-    if is_changed(answer) {
-        Change {
-            slot,
-            symbol,
-            answer,
-        }
-    } else {
-        nowhere(n, answer)
-    }
+    let stored = match effect {
+        Effect::Kept => None,
+        _ => Some((slot, symbol)),
+    };
+    Change { effect, stored }
 }
 
 // A put with nothing: the table is judged, and that is all.
-fn keep(flat: &Columns, n: usize, store: &[u64]) -> Change
-    ensures { result ≡ as-coded.nowhere n (rules.nothing_put (read_from flat.now 0 n) store.now) }
+fn keep(table: &Table) -> Result<Change, Refused>
+    ensures { as-coded.of_change result
+        ≡ as-coded.nowhere (rules.nothing_put (records table.now) table.now.store.now) }
 {
-    if in_order(flat, n, store) {
-        nowhere(n, accepted(Effect::KEPT))
-    } else {
-        nowhere(n, refused(Refusal::TABLE_NOT_IN_ORDER, 0))
+    if !in_order(table) {
+        return Err(Refusal::TableNotInOrder.into());
     }
+    Ok(Change {
+        effect: Effect::Kept,
+        stored: None,
+    })
 }
 
 // An act in a table that is given by its columns. The slot's part of the store is lent on, and written there.
+#[tactic(auto, using(crate::proofs::Decided::found_below, crate::proofs::Decided::found_part, crate::proofs::Decided::new_below, crate::proofs::Decided::new_part), unfolding(crate::specs::AsCoded::change_of, crate::specs::AsCoded::store_of, crate::specs::Change::outcome))]
 fn act_in(
     act: Act,
-    flat: &Columns,
-    n: usize,
+    columns: &Columns,
+    count: usize,
     store: &mut [u64],
-    id: u32,
-    authority: bool,
-    place: u64,
+    name: Identifier,
     mark: u64,
     offered: &[u64],
-) -> Change
+) -> Result<Change, Refused>
     ensures { as-coded.Chooses
-        (acts (of_act act)) id authority place mark offered.now (read_from flat.now 0 n) store.old
+        (acts (of_act act)) name.id name.authority name.place mark offered.now
+        (read_from columns.now 0 count) store.old
         result store.new }
 {
-    match way_of(act, flat, n, store, id, offered) {
-        Way::Refused { number, place: at } => nowhere(n, refused(number, at)),
+    let table = Table {
+        columns,
+        count,
+        store,
+    };
+    match way_of(act, &table, name.id, offered)? {
         Way::Found(at) => {
             let from = at * Limit::SLOT_WORDS;
-            let s = row(flat, at, id);
             let slot = &mut store[from..from + Limit::SLOT_WORDS];
-            let u = overwrite(act, s, slot, id, authority, place, mark, offered);
-            if_changed(n, at, u)
+            let mut symbol = row(columns, at, name.id);
+            let effect = overwrite(act, &mut symbol, slot, name, mark, offered)?;
+            Ok(if_changed(at, symbol, effect))
         }
         Way::Free(at) => {
             let from = at * Limit::SLOT_WORDS;
             let slot = &mut store[from..from + Limit::SLOT_WORDS];
-            let symbol = fill(act, slot, id, authority, place, mark, offered);
-            Change {
-                slot: at,
-                symbol,
-                answer: accepted(Effect::INSERTED),
-            }
+            let symbol = fill(act, slot, name, mark, offered);
+            Ok(Change {
+                effect: Effect::Inserted,
+                stored: Some((at, symbol)),
+            })
         }
     }
 }
 
 // The change of a table that is given by its columns.
+#[tactic(auto, unfolding(crate::specs::AsCoded::change_of, crate::specs::AsCoded::store_of, crate::specs::Change::outcome))]
 pub fn choose(
-    flat: &Columns,
-    n: usize,
+    columns: &Columns,
+    count: usize,
     store: &mut [u64],
     operation: Operation,
-    id: u32,
-    authority: bool,
-    place: u64,
+    name: Identifier,
     mark: u64,
     offered: &[u64],
-) -> Change
+) -> Result<Change, Refused>
     ensures { as-coded.Chooses
-        (of_operation operation) id authority place mark offered.now (read_from flat.now 0 n) store.old
+        (of_operation operation) name.id name.authority name.place mark offered.now
+        (read_from columns.now 0 count) store.old
         result store.new }
 {
-    match act_of(operation) {
-        Asked::Nothing => keep(flat, n, store),
-        Asked::Acts(act) => { act_in(act, flat, n, store, id, authority, place, mark, offered) }
+    match operation.act() {
+        Some(act) => act_in(act, columns, count, store, name, mark, offered),
+        None => keep(&Table {
+            columns,
+            count,
+            store,
+        }),
     }
 }

@@ -1,35 +1,36 @@
-use Rattle.symbol_change.proofs.Decided.{chose-refused, kept-refused, found-fits, found-ends, found-bytes, found_part, chose-found, kept-found, new-fits, new-ends, new-bytes, new-part, chose-new, kept_new}
+use mathlib.Core.Path.{◌≡◌, ◌∙◌}
+use Rattle.std.proofs.Common.{arith}
+use Rattle.std.proofs.lemmas.Grind.{common_steps}
+use Rattle.type_numbers.specs.Refusal.{number_of}
+use Rattle.write_answer.specs.Flat.{not_accepted}
+use Rattle.symbol_change.specs.AsCoded.{of_change, nowhere}
+use Rattle.symbol_change.proofs.Decided.{found_part, chose-found, kept-found, new_part, chose-new, kept-new, refused-stays}
 use Rattle.symbol_change.proofs.change.act_in.Goals as goal
 
-pub overflow_mul-from : goal.overflow_mul-from
-overflow_mul-from c = search found-fits
-
-pub overflow_add-slot : goal.overflow_add-slot
-overflow_add-slot c = search found-ends
-
-pub offset_bounds-store-from : goal.offset_bounds-store-from
-offset_bounds-store-from c = search found-bytes
-
 pub slice_bounds-slot-end : goal.slice_bounds-slot-end
-slice_bounds-slot-end c = search found_part
-
-pub overflow_mul-from-in-Free : goal.overflow_mul-from-in-Free
-overflow_mul-from-in-Free c = search new-fits
-
-pub overflow_add-slot-in-Free : goal.overflow_add-slot-in-Free
-overflow_add-slot-in-Free c = search new-ends
-
-pub offset_bounds-store-from-in-Free : goal.offset_bounds-store-from-in-Free
-offset_bounds-store-from-in-Free c = search new-bytes
+slice_bounds-slot-end c = found_part _ _ _ _ _ _ _ c.in_ok-at.ensures _ c.in-Found.is
 
 pub slice_bounds-slot-end-in-Free : goal.slice_bounds-slot-end-in-Free
-slice_bounds-slot-end-in-Free c = search new-part
+slice_bounds-slot-end-in-Free c = new_part _ _ _ _ _ _ _ c.in_ok-at.ensures _ c.in-Free.is
 
-pub returns-in-Refused : goal.returns-in-Refused
-returns-in-Refused c = (search chose-refused, search kept-refused)
+pub returns-in_err-effect-in-Found : goal.returns-in_err-effect-in-Found
+returns-in_err-effect-in-Found c =
+    let x = c.in_err-effect-in-Found.field-0.0 in
+    let i : of_change c.from_residual-in_err-effect-in-Found.result ≡ nowhere (not_accepted (number_of x.refusal) x.place) = grind (arith, common_steps) in (
+      chose-found _ _ _ _ _ _ _ c.in_ok-at.ensures _ c.in-Found.is _ _ _ _ c.row-symbol.ensures _ _ _
+          c.in_err-effect-in-Found.ensures.0 c.in_err-effect-in-Found.ensures.1 (i ∙ refused-stays _ _ x),
+      kept-found _ _ _ _ _ _ _ c.in_ok-at.ensures _ c.in-Found.is _ _ _ _ c.row-symbol.ensures _ c.in_err-effect-in-Found.ensures.2,
+    )
 
-pub returns-in-Found : goal.returns-in-Found
-returns-in-Found c = (search chose-found, search kept-found)
+pub returns-in_ok-effect-in-Found : goal.returns-in_ok-effect-in-Found
+returns-in_ok-effect-in-Found c = (
+  chose-found _ _ _ _ _ _ _ c.in_ok-at.ensures _ c.in-Found.is _ _ _ _ c.row-symbol.ensures _ _ _
+      c.in_ok-effect-in-Found.ensures.0 c.in_ok-effect-in-Found.ensures.1 c.if_changed.ensures,
+  kept-found _ _ _ _ _ _ _ c.in_ok-at.ensures _ c.in-Found.is _ _ _ _ c.row-symbol.ensures _ c.in_ok-effect-in-Found.ensures.2,
+)
 
 pub returns-in-Free : goal.returns-in-Free
-returns-in-Free c = (search chose-new, search kept_new)
+returns-in-Free c = (
+  chose-new _ _ _ _ _ _ _ c.in_ok-at.ensures _ c.in-Free.is _ _ _ _ c.fill-symbol.ensures.0,
+  kept-new _ _ _ _ _ _ _ c.in_ok-at.ensures _ c.in-Free.is _ _ _ _ c.fill-symbol.ensures.1,
+)
