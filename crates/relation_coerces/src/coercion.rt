@@ -8,7 +8,8 @@ use relation_equals::{equals, identical};
 use type_layers::{inner, outer};
 use type_numbers::Kind;
 
-// How a type coerces into another: not at all, as a value, or by its address. No Option: document 01 counts three answers.
+// How a type coerces into another: not at all, as a value, or by its address.
+// No Option of two ways: document 01 numbers three answers, and none is the first.
 #[derive(Clone, Copy, Debug, PartialEq, Eq)]
 pub enum Coercion {
     None,
@@ -24,6 +25,7 @@ impl From<Coercion> for u64 {
     }
 }
 
+// Two readings of the one answer. One function of both would be `==`, which is no plainer where it is called.
 impl Coercion {
     pub fn is_as_value(self) -> bool
         ensures { result ≡ eqb (as-coded.of_coercion self) of-coercion.as_value }

@@ -16,7 +16,7 @@ fn counted<const CHAR8_IS_UINT8: bool>(k: u64) -> u64
     }
 }
 
-// Whether two types are the same, layer by layer.
+// Whether two types are the same, layer by layer. The two below are its instances, each with the contract of its rule.
 #[tactic(auto, using(crate::proofs::Steps::ends))]
 fn same<const CHAR8_IS_UINT8: bool>(a: &[u64], b: &[u64]) -> bool
     ensures { result ≡ as-coded.same CHAR8_IS_UINT8 (layers a.now) (layers b.now) }

@@ -9,7 +9,7 @@ use relation_equals::{equals, identical};
 use type_first_refusal::check_types;
 use type_layers::Refused;
 
-// The relations of yes or no that can be asked for.
+// The relations of yes or no that can be asked for. No closure in its place: the C face's contracts name the relation.
 #[derive(Clone, Copy, Debug, PartialEq, Eq)]
 pub enum Relation {
     Identical,
