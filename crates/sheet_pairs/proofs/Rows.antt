@@ -9,12 +9,9 @@ use native.Mathlib.Omega.{arith}
 use lib.ListN.{length, take, get_or, length-append}
 use lib.Seq.{take_all, length-take-le}
 use Rattle.sheet_pairs.specs.Text.{each}
-use Rattle.sheet_text.proofs.Putting.{Put, nothing_put, then, room, length-put}
-
--- what a loop over the types knows before the type at j: the texts of those before it were put at a place of l
-pub record Going (f : ℕ → List ℕ → List ℕ) (ts : List (List ℕ)) (at : ℕ) (l : List ℕ) (j to : ℕ) (k : List ℕ) : Type 0 where
-  pub within : j ≤ length ts
-  pub put : Put at (each f 1 (take j ts)) l to k
+use Rattle.sheet_text.specs.AsCoded.{Puts}
+use Rattle.sheet_text.specs.declared.text.Text.{Text}
+use Rattle.sheet_text.proofs.Putting.{nothing-puts, and-then, room-behind}
 
 module _ (f : ℕ → List ℕ → List ℕ) where
   one_more : (i j : ℕ) (ts : List (List ℕ)) → j < length ts →
@@ -32,40 +29,31 @@ module _ (f : ℕ → List ℕ → List ℕ) where
     length-each i [] = omega arith
     length-each i (t ∷ ts) = simp (length-append, mul-suc) (omega (arith, short i t, length-each (i + 1) ts))
 
-    module _ (ts : List (List ℕ)) (at : ℕ) (l : List ℕ) (h : at + m * length ts ≤ length l) where
-      pub going-begin : Going f ts at l 0 at l
+    -- of the types before the one at j the texts were put
+    module _ (ts : List (List ℕ)) (a : Text) (h : a.at + m * length ts ≤ length a.out.now) where
+      pub going-begin : Puts (each f 1 (take 0 ts)) a a
       unfolding each
-      going-begin = record { within = omega arith; put = nothing_put at l }
+      going-begin = nothing-puts a
 
-      module _ (j to : ℕ) (k : List ℕ) (p : Going f ts at l j to k) where
-        so_far : length (each f 1 (take j ts)) ≤ m * j
-        so_far = rw (length-take-le j ts p.within) at (length-each 1 (take j ts))
-
-        in_all : m * j ≤ m * length ts
-        in_all = mul-le-mul_left m p.within
-
-        pub going-same : length k ≡ length l
-        going-same = rw p.put.1 (length-put at (each f 1 (take j ts)) l (omega (arith, so_far, in_all)))
-
-        pub going_end : length ts ≤ j → Put at (each f 1 ts) l to k
-        going_end i = rw (take_all j ts i) at p.put
+      module _ (j : ℕ) (b : Text) (p : Puts (each f 1 (take j ts)) a b) where
+        pub going_end : length ts ≤ j → Puts (each f 1 ts) a b
+        going_end i = rw (take_all j ts i) at p
 
         module _ (i : j < length ts) where
+          so_far : length (each f 1 (take j ts)) ≤ m * j
+          so_far = rw (length-take-le j ts (omega arith)) at (length-each 1 (take j ts))
+
           one-fits : m * j + m ≤ m * length ts
           one-fits = rw mul-suc at (mul-le-mul_left {m = suc j} {n = length ts} m i)
 
-          pub going-room : to + m ≤ length k
-          going-room = room at to (each f 1 (take j ts)) l k p.put m (omega (arith, so_far, one-fits))
+          pub going-room : b.at + m ≤ length b.out.now
+          going-room = room-behind (each f 1 (take j ts)) a b p m (omega (arith, so_far, one-fits))
 
-          pub going_on : (to' : ℕ) (k' : List ℕ) → Put to (f (j + 1) (get_or ts j [])) k to' k' → Going f ts at l (j + 1) to' k'
-          going_on to' k' q =
+          pub going_on : (c : Text) → Puts (f (j + 1) (get_or ts j [])) b c → Puts (each f 1 (take (j + 1) ts)) a c
+          going_on c q =
               let e : 1 + j ≡ j + 1 = omega arith in
               let s : each f 1 (take (j + 1) ts) ≡ each f 1 (take j ts) ++ f (j + 1) (get_or ts j []) =
               rw (add-one j) (one_more 1 j ts i ∙ rw (e, add-one)) in
-              record {
-                within = omega arith;
-                put =
-                    rw s
-                    (then at to to' (each f 1 (take j ts)) (f (j + 1) (get_or ts j [])) l k k' p.put q
-                    (omega (arith, so_far, one-fits, short (j + 1) (get_or ts j []))));
-              }
+              rw s
+              (and-then (each f 1 (take j ts)) (f (j + 1) (get_or ts j [])) a b c p q
+              (omega (arith, so_far, one-fits, short (j + 1) (get_or ts j []))))

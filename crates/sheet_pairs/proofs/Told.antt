@@ -1,64 +1,59 @@
 -- What is printed of the bytes that were read.
 -- Assumes nothing.
-use mathlib.Core.Path.{◌≡◌, sym, ◌∙◌}
+use mathlib.Core.Path.{◌≡◌, refl, sym, ◌∙◌}
 use mathlib.Core.List.{List, ◌++◌}
-use Prim.Native.Nat.{ℕ, ◌/◌, ◌≤◌, ◌<◌}
+use Prim.Native.Nat.{ℕ, ◌/◌, ◌≤◌}
 use native.Mathlib.Nat.{zero-add}
 use native.Mathlib.Omega.{arith}
 use lib.ListN.{length, length-append, take, replicate}
 use lib.Seq.{length-take-le}
 use Rattle.write_words.specs.Written.{written}
 use Rattle.write_words.proofs.Writing.{fits, length-written}
-use Rattle.type_layers.specs.Answer.{given, refused, of_checked}
-use Rattle.type_layers.specs.declared.answers.Checked.{Checked}
-use Rattle.type_layers.specs.declared.answers.Checked.TheVariants as checked
+use Rattle.type_layers.specs.Answer.{Answer, given, nothing, refused}
 use Rattle.sheet_words.specs.Little.{whole_words}
 use Rattle.sheet_contents.specs.Contents.{types}
 use Rattle.sheet_read.specs.Sheet.{read_sheet}
-use Rattle.sheet_read.proofs.Read.{Read, was_read, small-number}
+use Rattle.sheet_read.proofs.Read.{Read, was_read}
 use Rattle.sheet_words.proofs.Decoding.{words_back}
-use Rattle.sheet_text.specs.AsCoded.{put_at}
-use Rattle.sheet_pairs.specs.Text.{header, rows, refusal, text}
+use Rattle.sheet_text.specs.AsCoded.{put_at, Puts}
+use Rattle.sheet_text.specs.declared.text.Text.{Text}
+use Rattle.sheet_pairs.specs.Text.{header, rows, refusal, printed, text}
 use Rattle.sheet_text.proofs.Putting.{digits-few}
-use Rattle.sheet_pairs.proofs.Texts.{all_short}
+use Rattle.sheet_pairs.proofs.Texts.{rows-fit}
 
--- from the first byte on
-at-the-start : (t l : List ℕ) → length t ≤ length l → put_at 0 t l ≡ written t l
+-- what is printed fits
+pub text-fits : (bs : List ℕ) → length (text bs) ≤ 18494
+unfolding text
+text-fits bs = by-answer (read_sheet bs) refl
+  where
+    by-answer : (r : Answer ℕ) → read_sheet bs ≡ r → length (printed (types (whole_words bs)) r) ≤ 18494
+    by-answer (given n) e =
+        let k = was_read bs n (sym e) in
+        let few : length (types (whole_words bs)) ≤ 32 = omega (arith, k.few, k.types-in) in
+        simp length-append (omega (arith, rows-fit (types (whole_words bs)) few))
+    by-answer nothing e = omega arith
+    by-answer (refused n p) e = simp length-append (omega (arith, digits-few n))
+
+-- from the first byte on, a length within the text counts its first bytes
+pub told : (bs : List ℕ) (a b : Text) → a.at ≡ 0 → length a.out.now ≡ 18494 → Puts (text bs) a b →
+    ((b.at ≡ length (text bs)) × (b.at ≤ length b.out.now) × (b.at ≡ length (take b.at b.out.now))) × (b.out.now ≡ written (text bs) a.out.now)
 unfolding put_at
-at-the-start t l h = rw (zero-add, fits t l h)
+told bs a b z h p =
+    let short = text-fits bs in
+    let n : b.at ≡ length (text bs) = p.next ∙ rw (z, zero-add) in
+    let w : b.out.now ≡ written (text bs) a.out.now = p.text ∙ rw (z, zero-add, fits (text bs) a.out.now (omega arith)) in
+    let l : length b.out.now ≡ length a.out.now = rw w (length-written (text bs) a.out.now) in
+    let within : b.at ≤ length b.out.now = omega arith in
+    ((n, within, sym (length-take-le b.at b.out.now within)), w)
 
--- a length within the text counts its first bytes
-all_told : (t l : List ℕ) (to : ℕ) (k : List ℕ) → length t ≤ length l → (to ≡ length t) × (k ≡ put_at 0 t l) →
-    ((to ≡ length t) × (to ≤ length k) × (to ≡ length (take to k))) × (k ≡ written t l)
-all_told t l to k h q =
-    let w : k ≡ written t l = q.1 ∙ at-the-start t l h in
-    let n : length k ≡ length l = rw w (length-written t l) in
-    let within : to ≤ length k = omega (arith, q.0) in
-    ((q.0, within, sym (length-take-le to k within)), w)
+module _ (bs : List ℕ) where
+  pub refused-text : (m p : ℕ) → refused m p ≡ read_sheet bs → (a b : Text) → Puts (refusal m) a b → Puts (text bs) a b
+  unfolding text
+  refused-text m p e a b q = rw (← e) q
 
-module _ (bs : List ℕ) (r : Checked) (e : of_checked r ≡ read_sheet bs) where
-  module _ (m p : ℕ) (f : r ≡ checked.Refused m p) where
-    not-read : refused m p ≡ read_sheet bs
-    not-read = rw f at e
-
-    pub number_fits : m < 100
-    number_fits = small-number bs m p not-read
-
-    says : text bs ≡ refusal m
-    unfolding text
-    says = rw (sym not-read)
-
-    pub refused-text : (l : List ℕ) → 18494 ≤ length l → (to : ℕ) (k : List ℕ) → (to ≡ length (refusal m)) × (k ≡ put_at 0 (refusal m) l) →
-        ((to ≡ length (text bs)) × (to ≤ length k) × (to ≡ length (take to k))) × (k ≡ written (text bs) l)
-    refused-text l room to k q =
-        rw says (all_told (refusal m) l to k (simp length-append (omega (arith, digits-few m))) q)
-
-  module _ (n : ℕ) (f : r ≡ checked.Good n) (z : List ℕ) (g : z ≡ written (whole_words bs) (replicate 1569 0)) where
-    is_read : given n ≡ read_sheet bs
-    is_read = rw f at e
-
+  module _ (n : ℕ) (e : given n ≡ read_sheet bs) (z : List ℕ) (g : z ≡ written (whole_words bs) (replicate 1569 0)) where
     known : Read bs n
-    known = was_read bs n is_read
+    known = was_read bs n e
 
     pub few_words : length bs / 8 ≤ length z
     few_words =
@@ -68,17 +63,9 @@ module _ (bs : List ℕ) (r : Checked) (e : of_checked r ≡ read_sheet bs) wher
     pub so-many-words : length bs / 8 ≡ length (take (length bs / 8) z)
     so-many-words = sym (length-take-le (length bs / 8) z few_words)
 
-    tells : text bs ≡ header ++ rows (types (take (length bs / 8) z))
+    pub table_fits : (n ≤ 32) × (n ≡ length (types (take (length bs / 8) z)))
+    table_fits = (known.few, rw (words_back bs z known.short g) known.types-in)
+
+    pub read-text : (a b : Text) → Puts (header ++ rows (types (take (length bs / 8) z))) a b → Puts (text bs) a b
     unfolding text
-    tells = rw (sym is_read, words_back bs z known.short g)
-
-    module _ (l : List ℕ) (room : 18494 ≤ length l) where
-      pub table_fits : (18494 ≤ length l) × (n ≤ 32) × (n ≡ length (types (take (length bs / 8) z)))
-      table_fits = (room, known.few, rw (words_back bs z known.short g) known.types-in)
-
-      pub read-text : (to : ℕ) (k : List ℕ) →
-          (to ≡ length (header ++ rows (types (take (length bs / 8) z)))) × (k ≡ put_at 0 (header ++ rows (types (take (length bs / 8) z))) l) →
-          ((to ≡ length (text bs)) × (to ≤ length k) × (to ≡ length (take to k))) × (k ≡ written (text bs) l)
-      read-text to k q =
-          let lines = all_short (take (length bs / 8) z) l n table_fits in
-          rw tells (all_told (header ++ rows (types (take (length bs / 8) z))) l to k (simp length-append (omega (arith, lines))) q)
+    read-text a b q = rw (← e) (rw (words_back bs z known.short g) at q)

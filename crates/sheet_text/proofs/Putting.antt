@@ -10,7 +10,8 @@ use lib.Dec.{ltb}
 use lib.ListN.{length, take, drop, length-append, length-drop, take-append-drop}
 use lib.Seq.{take_at, drop_at, drop-drop, length-take-le}
 use borrow.Author.Tests.{le-leb}
-use Rattle.sheet_text.specs.AsCoded.{put_at, fits, put_in, behind}
+use Rattle.sheet_text.specs.AsCoded.{put_at, fits, put_in, behind, PutsIfRoom, Puts}
+use Rattle.sheet_text.specs.declared.text.Text.{Text}
 use Rattle.sheet_text.specs.Decimal.{decimal}
 
 -- a run t was put at a place of l: the place behind it, and the text now
@@ -95,3 +96,24 @@ pub room : (at mid : ℕ) (s l m : List ℕ) → Put at s l mid m → (k : ℕ) 
 room at mid s l m p k h =
     let n : length m ≡ length l = rw p.1 (length-put at s l (omega arith)) in
     omega (arith, p.0)
+
+-- of texts
+module _ (t : List ℕ) (a b : Text) where
+  pub puts : PutsIfRoom t a b → a.at + length t ≤ length a.out.now → Puts t a b
+  puts d h =
+      let p = fitted a.at t a.out.now h b.at b.out.now (d.next, d.text) in
+      record { same = d.same; next = p.0; text = p.1 }
+
+  pub length-puts : Puts t a b → a.at + length t ≤ length a.out.now → length b.out.now ≡ length a.out.now
+  length-puts p h = rw p.text (length-put a.at t a.out.now h)
+
+  pub room-behind : Puts t a b → (k : ℕ) → a.at + length t + k ≤ length a.out.now → b.at + k ≤ length b.out.now
+  room-behind p k h = room a.at b.at t a.out.now b.out.now (p.next, p.text) k h
+
+pub nothing-puts : (a : Text) → Puts [] a a
+nothing-puts a = let p = nothing_put a.at a.out.now in record { same = refl; next = p.0; text = p.1 }
+
+pub and-then : (s t : List ℕ) (a b c : Text) → Puts s a b → Puts t b c → a.at + length s + length t ≤ length a.out.now → Puts (s ++ t) a c
+and-then s t a b c p q h =
+    let r = then a.at b.at c.at s t a.out.now b.out.now c.out.now (p.next, p.text) (q.next, q.text) h in
+    record { same = q.same ∙ p.same; next = r.0; text = r.1 }

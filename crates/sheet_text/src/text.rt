@@ -1,5 +1,4 @@
-ghost use Rattle.std.specs.Prelude.{◌≡◌};
-ghost use Rattle.sheet_text.specs.AsCoded.{put_in, behind};
+ghost use Rattle.sheet_text.specs.AsCoded.{PutsIfRoom};
 ghost use Rattle.sheet_text.specs.Decimal.{decimal};
 
 // A lent text, into which bytes are put one run behind the other, and the place behind the last.
@@ -13,9 +12,7 @@ impl<'a> Text<'a> {
     // Puts bytes at the place; nothing where they do not fit.
     #[tactic(auto, unfolding(crate::specs::AsCoded::put_at, crate::specs::AsCoded::put_in, crate::specs::AsCoded::behind))]
     pub fn put(&mut self, bytes: &[u8])
-        ensures same { self.new.out.ghost_name ≡ self.old.out.ghost_name }
-        ensures next { self.new.at ≡ behind self.old.at bytes.now self.old.out.now }
-        ensures text { self.new.out.now ≡ put_in self.old.at bytes.now self.old.out.now }
+        ensures { PutsIfRoom bytes.now self.old self.new }
     {
         let at = self.at;
         let Some(end) = at.checked_add(bytes.len()) else {
@@ -30,9 +27,7 @@ impl<'a> Text<'a> {
     // Puts a number below 100 in decimal; of others nothing.
     #[tactic(auto, using(crate::proofs::Putting::nothing_in, crate::proofs::Putting::nothing_behind), unfolding(crate::specs::Decimal::decimal))]
     pub fn put_number(&mut self, n: usize)
-        ensures same { self.new.out.ghost_name ≡ self.old.out.ghost_name }
-        ensures next { self.new.at ≡ behind self.old.at (decimal n) self.old.out.now }
-        ensures text { self.new.out.now ≡ put_in self.old.at (decimal n) self.old.out.now }
+        ensures { PutsIfRoom (decimal n) self.old self.new }
     {
         match n {
             0..10 => self.put(&[b'0' + n as u8]),
