@@ -1,104 +1,83 @@
 -- The word at which a part starts, by the part that was asked for.
 -- Assumes nothing.
+use denote.Ref.{Bor}
 use mathlib.Core.Path.{◌≡◌, refl, sym, ap, ◌∙◌}
-use mathlib.Core.Bool.{Bool, true, false, cond, ◌||◌, or-true}
+use mathlib.Core.Bool.{Bool, true, false, cond, false≢true}
 use mathlib.Core.List.{List, [], ◌∷◌}
-use Prim.Native.Nat.{ℕ, ◌+◌, ◌*◌, ◌-◌, ◌/◌, ◌≤◌, ◌<◌}
+use Prim.Native.Nat.{ℕ, ◌+◌, ◌*◌, ◌-◌, ◌≤◌}
 use native.Mathlib.Omega.{arith}
-use lib.Dec.{eqb}
 use lib.ListN.{length, length-drop}
-use borrow.Author.Tests.{ne_eqb, eqb-true}
-use Rattle.type_numbers.specs.Kind as kind
-use Rattle.type_layers.specs.Layers.{Layer, layers, outer, is_array, is_slice, is_reference, holds_inner}
-use Rattle.type_layers.specs.Answer.{Answer, given, nothing, is_given}
-use Rattle.type_checks.specs.Check.{nowhere, misplaced, check_of}
-use Rattle.type_checks.proofs.Passing.{counted-by}
-use Rattle.type_checks.proofs.Accepted.{placed-inside, accepted-placed, accepted-count, accepted-inside}
+use Rattle.std.specs.Prelude.{◌↔◌, Option, Some, None, IsSome, IfSome, IsTrue}
+use Rattle.type_layers.specs.Layers.{layers, outer, is_reference}
+use Rattle.type_layers.specs.Answer.{given}
 use Rattle.type_parts.specs.Parts.{inner_if, element_of, pointee_of, viewee_of, references, fully_dereferenced, has_element, has_pointee, has_viewee}
 use Rattle.type_part_starts.specs.PartStarts.{inner_start, start_in}
+use Rattle.type_part_starts.specs.AsCoded.{ReachesToTheEnd}
 use Rattle.type_part_starts.specs.declared.part_starts.Part.{Part}
 use Rattle.type_part_starts.specs.declared.part_starts.Part.TheVariants as part
 
--- no part has more words than the type
-module _ (ws l : List ℕ) where
-  inner-short : (f : Bool) → l ≡ inner_if f ws → length l ≤ length ws
-  inner-short true e = rw e (simp length-drop (omega arith))
-  inner-short false e = rw e (omega arith)
+-- a type that has an inner type has an outer layer
+module _ (has : ℕ → Bool) (none : has 25 ≡ false) where
+  outer-words : (ws : List ℕ) → has (outer (layers ws)) ≡ true → 3 ≤ length ws
+  unfolding outer layers
+  outer-words [] h = absurd (false≢true (sym none ∙ h))
+  outer-words (k ∷ []) h = absurd (false≢true (sym none ∙ h))
+  outer-words (k ∷ n ∷ []) h = absurd (false≢true (sym none ∙ h))
+  outer-words (k ∷ n ∷ m ∷ ws) h = omega arith
 
-  pub element-short : l ≡ element_of ws → length l ≤ length ws
-  unfolding element_of
-  element-short e = inner-short (has_element (outer (layers ws))) e
+  -- so an inner type starts three words in
+  inner-reaches : (p : Part) (ws : List ℕ) (r : Option (Bor (List ℕ))) → start_in p (layers ws) ≡ inner_start (has (outer (layers ws))) →
+      (IsSome r ↔ IsTrue (has (outer (layers ws)))) → IfSome r (λ l. l.now ≡ inner_if (has (outer (layers ws))) ws) → ReachesToTheEnd p ws r
+  inner-reaches p ws r e = by_test (has (outer (layers ws))) r refl
+    where
+      by_test : (b : Bool) (r : Option (Bor (List ℕ))) → has (outer (layers ws)) ≡ b → (IsSome r ↔ IsTrue b) → IfSome r (λ l. l.now ≡ inner_if b ws) → ReachesToTheEnd p ws r
+      by_test true (Some l) f i w =
+          let n : length l.now ≡ length ws - 3 = ap length w ∙ length-drop 3 ws in
+          let h = outer-words ws f in
+          let d : length ws - length l.now ≡ 3 = omega (arith, n, h) in
+          (omega (arith, n), e ∙ (rw (f, d)))
+      by_test true None f i w = let s : IsSome {T = Bor (List ℕ)} None = i.1 refl in absurd (false≢true s)
+      by_test false (Some l) f i w = absurd (false≢true (i.0 refl))
+      by_test false None f i w = e ∙ (rw f)
 
-  pub pointee-short : l ≡ pointee_of ws → length l ≤ length ws
-  unfolding pointee_of
-  pointee-short e = inner-short (has_pointee (outer (layers ws))) e
-
-  pub viewee-short : l ≡ viewee_of ws → length l ≤ length ws
-  unfolding viewee_of
-  viewee-short e = inner-short (has_viewee (outer (layers ws))) e
-
-  pub dereferenced-short : l ≡ fully_dereferenced ws → length l ≤ length ws
-  unfolding fully_dereferenced
-  dereferenced-short e = rw e (simp length-drop (omega arith))
-
-pub ruleset short = (element-short, pointee-short, viewee-short, dereferenced-short)
-
--- the Pointers and Views outside are not all the layers
-references-fewer : (p : ℕ) (a : List Layer) → misplaced p a ≡ nowhere → 0 < length a → references a < length a
-unfolding references
-references-fewer p [] e h = h
-references-fewer p (x ∷ a) e h = by_kind (is_reference x.kind) refl (references-fewer (p + 1) a)
+-- no more Pointers and Views stand outside than there are layers
+within : (ws : List ℕ) → references (layers ws) * 3 ≤ length ws
+unfolding references layers
+within [] = omega arith
+within (k ∷ []) = omega arith
+within (k ∷ n ∷ []) = omega arith
+within (k ∷ n ∷ m ∷ ws) = by_kind (is_reference k) (within ws)
   where
-    holds : is_reference x.kind ≡ true → holds_inner x.kind ≡ true
-    holds f = rw f (or-true (is_array x.kind || is_slice x.kind))
+    by_kind : (b : Bool) → references (layers ws) * 3 ≤ length ws → cond b (references (layers ws) + 1) 0 * 3 ≤ length (k ∷ n ∷ m ∷ ws)
+    by_kind true h = omega arith
+    by_kind false h = omega arith
 
-    by_kind : (b : Bool) → is_reference x.kind ≡ b → (misplaced (p + 1) a ≡ nowhere → 0 < length a → references a < length a) →
-        cond b (references a + 1) 0 < length (x ∷ a)
-    by_kind true f fewer = let i = placed-inside p x a e (holds f) in omega (arith, fewer i.1 i.0)
-    by_kind false f fewer = omega arith
+-- each part, where it was asked for
+module _ (p : Part) (ws : List ℕ) (r : Option (Bor (List ℕ))) where
+  pub element : p ≡ part.Element → (IsSome r ↔ IsTrue (has_element (outer (layers ws)))) → IfSome r (λ l. l.now ≡ element_of ws) → ReachesToTheEnd p ws r
+  unfolding start_in element_of
+  element e i w = inner-reaches has_element refl p ws r (rw e) i w
 
--- words that pass the checks
-module _ (ws : List ℕ) where
-  module _ (g : is_given (check_of ws) ≡ true) where
-    count : check_of ws ≡ given (length ws / 3)
-    count = sym (counted-by ws true (sym g) refl)
+  pub pointee : p ≡ part.Pointee → (IsSome r ↔ IsTrue (has_pointee (outer (layers ws)))) → IfSome r (λ l. l.now ≡ pointee_of ws) → ReachesToTheEnd p ws r
+  unfolding start_in pointee_of
+  pointee e i w = inner-reaches has_pointee refl p ws r (rw e) i w
 
-    -- where a part starts, by its words
-    abbrev measured : List ℕ → Answer ℕ
-    measured l = cond (eqb (length l) 0) nothing (given (length ws - length l))
+  pub viewee : p ≡ part.Viewee → (IsSome r ↔ IsTrue (has_viewee (outer (layers ws)))) → IfSome r (λ l. l.now ≡ viewee_of ws) → ReachesToTheEnd p ws r
+  unfolding start_in viewee_of
+  viewee e i w = inner-reaches has_viewee refl p ws r (rw e) i w
 
-    measured-some : (l : List ℕ) (n : ℕ) → length ws ≡ n + length l → 0 < length l → measured l ≡ given n
-    measured-some l n e h =
-        let d : length ws - length l ≡ n = omega arith in
-        rw (ne_eqb (length l) 0 (λ z. omega arith), d)
+module _ (p : Part) (ws l : List ℕ) (q : l ≡ fully_dereferenced ws) where
+  dropped : length l ≡ length ws - references (layers ws) * 3
+  unfolding fully_dereferenced
+  dropped = ap length q ∙ length-drop (references (layers ws) * 3) ws
 
-    inner-measured : (f : Bool) (l : List ℕ) → (f ≡ true → holds_inner (outer (layers ws)) ≡ true) → l ≡ inner_if f ws → measured l ≡ inner_start f
-    inner-measured true l h e =
-        let m = accepted-inside ws (length ws / 3) count (h refl) in
-        let k : length l ≡ length ws - 3 = ap length e ∙ length-drop 3 ws in
-        measured-some l 3 (omega arith) (omega arith)
-    inner-measured false l h e = rw e
+  pub no_longer : length l ≤ length ws
+  no_longer = omega (arith, dropped)
 
-    -- where a part starts, by the part that was asked for
-    module _ (p : Part) (r : Answer ℕ) (l : List ℕ) (q : r ≡ measured l) where
-      pub at-element : p ≡ part.Element → l ≡ element_of ws → r ≡ start_in p (layers ws)
-      unfolding start_in element_of
-      at-element h e = rw h (q ∙ inner-measured (has_element (outer (layers ws))) l (λ f. rw f) e)
+  pub dereferenced : p ≡ part.Dereferenced → start_in p (layers ws) ≡ given (length ws - length l)
+  unfolding start_in
+  dereferenced e =
+      let d : length ws - length l ≡ references (layers ws) * 3 = omega (arith, dropped, within ws) in
+      rw (e, d)
 
-      pub at-pointee : p ≡ part.Pointee → l ≡ pointee_of ws → r ≡ start_in p (layers ws)
-      unfolding start_in pointee_of
-      at-pointee h e = rw h (q ∙ inner-measured (has_pointee (outer (layers ws))) l (λ f. rw (eqb-true (outer (layers ws)) kind.pointer f)) e)
-
-      pub at-viewee : p ≡ part.Viewee → l ≡ viewee_of ws → r ≡ start_in p (layers ws)
-      unfolding start_in viewee_of
-      at-viewee h e = rw h (q ∙ inner-measured (has_viewee (outer (layers ws))) l (λ f. rw (eqb-true (outer (layers ws)) kind.view f)) e)
-
-      pub at-dereferenced : p ≡ part.Dereferenced → l ≡ fully_dereferenced ws → r ≡ start_in p (layers ws)
-      unfolding start_in fully_dereferenced
-      at-dereferenced h e =
-          let c = accepted-count ws (length ws / 3) count in
-          let n = references-fewer 0 (layers ws) (accepted-placed ws (length ws / 3) count) c.1 in
-          let k : length l ≡ length ws - references (layers ws) * 3 = ap length e ∙ length-drop (references (layers ws) * 3) ws in
-          rw h (q ∙ measured-some l (references (layers ws) * 3) (omega arith) (omega arith))
-
-pub ruleset places = (at-element, at-pointee, at-viewee, at-dereferenced)
+pub ruleset reaching = (element, pointee, viewee, no_longer, dereferenced)

@@ -1,1 +1,2 @@
 pub mod PartStarts
+pub mod AsCoded

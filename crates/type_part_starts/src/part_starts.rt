@@ -1,8 +1,8 @@
-ghost use Rattle.std.specs.Prelude.{◌≡◌, true, cond, ◌-◌, ◌≤◌, eqb, length, Ok};
+ghost use Rattle.std.specs.Prelude.{◌≡◌, Ok};
 ghost use Rattle.type_layers.specs.Layers.{layers};
-ghost use Rattle.type_layers.specs.Answer.{given, nothing, is_given, of_found};
-ghost use Rattle.type_checks.specs.Check.{check_of};
+ghost use Rattle.type_layers.specs.Answer.{of_found};
 ghost use Rattle.type_part_starts.specs.PartStarts.{start_in, start_answer};
+ghost use Rattle.type_part_starts.specs.AsCoded.{ReachesToTheEnd};
 
 use type_first_refusal::check_type;
 use type_layers::Refused;
@@ -17,31 +17,25 @@ pub enum Part {
     Dereferenced,
 }
 
-// Where a part of a type starts that reaches to the last word; a part without words is none.
-fn start_at(a: &[u64], part: &[u64]) -> Option<u64>
-    requires { length part.now ≤ length a.now }
-    ensures { of_found (Ok result)
-        ≡ cond (eqb (length part.now) 0) nothing (given (length a.now - length part.now)) }
+// The part of a type that is asked for; where there is one, it reaches to the last word.
+#[tactic(auto, using(crate::proofs::Places::reaching))]
+fn part_of(part: Part, a: &[u64]) -> Option<&[u64]>
+    ensures { ReachesToTheEnd part a.now result }
 {
-    if part.is_empty() {
-        None
-    } else {
-        Some((a.len() - part.len()) as u64)
+    match part {
+        Part::Element => get_element_type(a),
+        Part::Pointee => get_pointee_type(a),
+        Part::Viewee => get_viewee_type(a),
+        Part::Dereferenced => Some(fully_dereferenced(a)),
     }
 }
 
-// Where a part starts of words that pass the checks.
-#[tactic(auto, using(crate::proofs::Places::short, crate::proofs::Places::places))]
+// Where a part of a type starts.
 fn start_in(part: Part, a: &[u64]) -> Option<u64>
-    requires { is_given (check_of a.now) ≡ true }
     ensures { of_found (Ok result) ≡ start_in part (layers a.now) }
 {
-    match part {
-        Part::Element => start_at(a, get_element_type(a)),
-        Part::Pointee => start_at(a, get_pointee_type(a)),
-        Part::Viewee => start_at(a, get_viewee_type(a)),
-        Part::Dereferenced => start_at(a, fully_dereferenced(a)),
-    }
+    let inside = part_of(part, a)?;
+    Some((a.len() - inside.len()) as u64)
 }
 
 // Where a part of a type starts, for any words.

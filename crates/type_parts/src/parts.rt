@@ -1,5 +1,6 @@
-ghost use Rattle.std.specs.Prelude.{◌≡◌};
-ghost use Rattle.type_parts.specs.Parts.{element_of, pointee_of, viewee_of, fully_dereferenced, has_element, inner_if};
+ghost use Rattle.std.specs.Prelude.{◌≡◌, ◌↔◌, IsTrue, IsSome, IfSome};
+ghost use Rattle.type_layers.specs.Layers.{layers, outer, inner_words};
+ghost use Rattle.type_parts.specs.Parts.{element_of, pointee_of, viewee_of, fully_dereferenced, has_element, has_pointee, has_viewee};
 
 use type_layers::{inner, is_array, is_reference, is_slice, outer};
 use type_numbers::Kind;
@@ -10,33 +11,37 @@ fn has_element(k: u64) -> bool
     is_array(k) | is_slice(k)
 }
 
-// The inner type where the type has it; else no words.
-fn inner_if(there: bool, a: &[u64]) -> &[u64]
-    ensures { result.now ≡ inner_if there a.now }
+// The inner type where the type has it.
+fn inner_if(there: bool, a: &[u64]) -> Option<&[u64]>
+    ensures there { IsSome result ↔ IsTrue there }
+    ensures words { IfSome result (λ part. part.now ≡ inner_words a.now) }
 {
-    if there { inner(a) } else { &a[..0] }
+    if there { Some(inner(a)) } else { None }
 }
 
-// The element type of an array or a slice; of any other type no words.
+// The element type of an array or a slice.
 #[tactic(auto, unfolding(crate::specs::Parts::element_of))]
-pub fn get_element_type(a: &[u64]) -> &[u64]
-    ensures { result.now ≡ element_of a.now }
+pub fn get_element_type(a: &[u64]) -> Option<&[u64]>
+    ensures there { IsSome result ↔ IsTrue (has_element (outer (layers a.now))) }
+    ensures words { IfSome result (λ part. part.now ≡ element_of a.now) }
 {
     inner_if(has_element(outer(a)), a)
 }
 
-// The type that a Pointer points to; of any other type no words.
+// The type that a Pointer points to.
 #[tactic(auto, unfolding(crate::specs::Parts::pointee_of))]
-pub fn get_pointee_type(a: &[u64]) -> &[u64]
-    ensures { result.now ≡ pointee_of a.now }
+pub fn get_pointee_type(a: &[u64]) -> Option<&[u64]>
+    ensures there { IsSome result ↔ IsTrue (has_pointee (outer (layers a.now))) }
+    ensures words { IfSome result (λ part. part.now ≡ pointee_of a.now) }
 {
     inner_if(outer(a) == Kind::POINTER, a)
 }
 
-// The type that a View views; of any other type no words.
+// The type that a View views.
 #[tactic(auto, unfolding(crate::specs::Parts::viewee_of))]
-pub fn get_viewee_type(a: &[u64]) -> &[u64]
-    ensures { result.now ≡ viewee_of a.now }
+pub fn get_viewee_type(a: &[u64]) -> Option<&[u64]>
+    ensures there { IsSome result ↔ IsTrue (has_viewee (outer (layers a.now))) }
+    ensures words { IfSome result (λ part. part.now ≡ viewee_of a.now) }
 {
     inner_if(outer(a) == Kind::VIEW, a)
 }
