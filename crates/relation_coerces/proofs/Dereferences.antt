@@ -1,7 +1,7 @@
 -- Sub-autoderefs and autoderefs, as the code asks them.
 -- Assumes nothing.
-use mathlib.Core.Path.{◌≡◌, refl, sym}
-use mathlib.Core.Bool.{Bool, true, false, cond, ◌&&◌, ◌||◌, false≢true}
+use mathlib.Core.Path.{◌≡◌, refl}
+use mathlib.Core.Bool.{Bool, true, false, cond, ◌&&◌, ◌||◌, or_assoc, false≢true}
 use mathlib.Core.List.{List, [], ◌∷◌}
 use Prim.Native.Nat.{ℕ, ◌≤◌, ◌<◌}
 use lib.Dec.{eqb}
@@ -41,16 +41,12 @@ pub words_apart : (d b : List ℕ) → may_equal (outer (layers d)) (outer (laye
 words_apart d b = apart (layers d) (layers b)
 
 -- the lines that autoderefs has for a View and a Pointer are "a equals b", here u, and those of sub-autoderefs
-grouped : (u v w z : Bool) → (u || (v || w || z)) ≡ (u || v || w || z)
-grouped true v w z = refl
-grouped false v w z = refl
-
 lines : (k : ℕ) (a b : List Layer) (u : Bool) → outer a ≡ k → is_reference k ≡ true →
     (u || equals (inside a) b || subautoderefs (inside a) b || eqb (outer b) k && subautoderefs (inside a) (inside b))
     ≡ (u || subautoderefs a b)
 unfolding outer inside subautoderefs
 lines k [] b u e t = absurd (false≢true (rw (← e) at t))
-lines k (x ∷ d) b u e t = rw (e, t) (sym (grouped u _ _ _))
+lines k (x ∷ d) b u e t = rw (e, t) (simp or_assoc)
 
 pub auto_looked : (a b : List ℕ) → autoderefs (layers a) (layers b)
     ≡ cond (is_array_or_struct (outer (layers a))) (equals (layers a) (layers b) || coerces (layers a) (layers b))
