@@ -11,10 +11,15 @@ use Rattle.relation_coerces.specs.AsCoded.{of_coercion}
 use Rattle.relation_coerces.proofs.Single.{coercion-apart}
 use Rattle.relation_coerces.specs.declared.coercion.Coercion.{Coercion}
 use Rattle.relation_questions.specs.AsCoded.{of_coercion_answer}
+use Rattle.relation_questions.proofs.ask_relation.holds.Kinds as holds-kinds
+use Rattle.relation_questions.proofs.ask_relation.holds.Reads as holds
 use Rattle.relation_questions.proofs.ask_relation.relates.Kinds as relates-kinds
 use Rattle.relation_questions.proofs.ask_relation.relates.Reads as relates
 use Rattle.relation_questions.proofs.ask_coercion.coerces.Kinds as coerces-kinds
 use Rattle.relation_questions.proofs.ask_coercion.coerces.Reads as coerces
+
+pub holds-single : Single 2 holds-kinds.ps holds-kinds.r holds.Post
+holds-single κs a x y s t p q = p ∙ sym q
 
 pub relates-single : Single 2 relates-kinds.ps relates-kinds.r relates.Post
 relates-single κs a x y s t p q = verdict-apart x y (p ∙ sym q)

@@ -21,7 +21,8 @@ pub enum Relation {
     Subautoderefs,
 }
 
-fn holds(relation: Relation, a: &[u64], b: &[u64]) -> bool
+// Whether the first of two types stands so to the second.
+pub fn holds(relation: Relation, a: &[u64], b: &[u64]) -> bool
     ensures { result ≡ answers.relates relation (layers a.now) (layers b.now) }
 {
     match relation {

@@ -5,4 +5,4 @@ mod ask_coercion;
 mod ask_relation;
 
 pub use ask_coercion::coerces;
-pub use ask_relation::{Relation, relates};
+pub use ask_relation::{Relation, holds, relates};
