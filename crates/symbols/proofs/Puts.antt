@@ -4,7 +4,7 @@ use mathlib.Core.Path.{◌≡◌, refl, sym, ap, subst, ◌∙◌}
 use mathlib.Core.Bool.{Bool, true, false, cond, not, ◌||◌, false≢true}
 use mathlib.Core.List.{List}
 use mathlib.Core.Logic.{◌≢◌}
-use Prim.Native.Nat.{ℕ, ◌-◌, ◌*◌, ◌%◌, ◌≤◌, ◌<◌}
+use Prim.Native.Nat.{ℕ, ◌*◌, ◌%◌, ◌≤◌, ◌<◌}
 use native.Mathlib.Omega.{arith}
 use lib.Dec.{eqb, leb}
 use lib.ListN.{length, drop, get_or, set, length-set, take-append-drop}
@@ -13,7 +13,7 @@ use borrow.Author.Tests.{eq-eqb, ne_eqb, lt-ltb, lt-leb, leb-true, leb-false, eq
 use Rattle.type_layers.specs.Answer as paper
 use Rattle.type_layers.specs.Answer.{given, nothing, refused}
 use Rattle.type_layers.specs.Layers.{layers}
-use Rattle.type_checks.specs.Check.{at, check_of}
+use Rattle.type_checks.specs.Check.{check_of}
 use Rattle.relation_equals.specs.Equals.{identical}
 use Rattle.relation_declared.specs.Declared.{concretization}
 use Rattle.relation_equals.proofs.Theorems.{identical-reflexive}
@@ -21,10 +21,9 @@ use Rattle.symbol_columns.specs.declared.symbol.Symbol.{Symbol}
 use Rattle.symbol_columns.specs.Record.{vacant, free}
 use Rattle.symbol_columns.specs.StoredWords.{slot_words, stored_words}
 use Rattle.symbol_search.specs.Search.{slot_for}
-use Rattle.symbol_order.specs.Order.{in_order, taken}
+use Rattle.symbol_order.specs.Order.{in_order}
 use Rattle.symbol_order.proofs.Ordered.{ordered, in_order_lem}
 use Rattle.symbols.proofs.Setting.{state-at, slot-taken, slot_kept, slot-written}
-use Rattle.write_answer.specs.declared.answer.Answer.{Answer}
 use Rattle.write_answer.specs.Flat.{accepted}
 use Rattle.symbol_update.proofs.Cases.{by_lines}
 use Rattle.symbol_update.proofs.Theorems.{poison-wins as update-poison, accepted-holds-offered}

@@ -10,8 +10,7 @@ use lib.Dec.{eqb, leb, ltb}
 use lib.ListN.{length, take, drop, get_or, set, length-set, length-append, length-drop, take-append-drop}
 use lib.Seq.{set-get_or, length-take-le, get_or-set_same, get_or-set_other, take_at, drop_at}
 use borrow.Author.Tests.{ltb-true, ltb-false, eq-eqb, lt-leb, leb-false}
-use Rattle.type_layers.specs.Layers.{layers}
-use Rattle.type_checks.specs.Check.{at, check_of}
+use Rattle.type_checks.specs.Check.{check_of}
 use Rattle.write_words.specs.Written.{written}
 use Rattle.write_words.proofs.Writing.{length-written}
 use Rattle.symbol_columns.specs.declared.symbol.Symbol.{Symbol}

@@ -3,10 +3,10 @@ ghost use Rattle.symbol_change.specs.Change.{Becomes};
 ghost use Rattle.symbols.specs.Symbols as symbols;
 
 use symbol_change::choose;
-use symbol_columns::{Column, Symbol};
+use symbol_columns::{Column, Identifier, Symbol};
 use symbol_lent::gather;
 use symbol_operations::Operation;
-use write_answer::Answer;
+use write_answer::{Answer, accepted, refused};
 
 // Changes a lent table and its store. A type has no mark and poison no offered words: the one that is not asked for is
 // not looked at.
@@ -14,33 +14,24 @@ pub fn change_symbol(
     table: &mut [Symbol],
     store: &mut [u64],
     operation: Operation,
-    id: u32,
-    authority: bool,
-    place: u64,
+    name: Identifier,
     mark: u64,
     offered: &[u64],
 ) -> Answer
     ensures { Becomes
-        (symbols.change (of_operation operation) id authority place mark offered.now table.old store.old)
+        (symbols.change (of_operation operation)
+        name.id name.authority name.place mark offered.now table.old store.old)
         result table.new store.new }
 {
-    let mut flat = [0u64; Column::WORDS];
-    gather(table, &mut flat);
-    let c = choose(
-        &flat,
-        table.len(),
-        store,
-        operation,
-        id,
-        authority,
-        place,
-        mark,
-        offered,
-    );
-    let at = c.slot;
-    if table.len() <= at {
-        return c.answer;
+    let mut columns = [0u64; Column::WORDS];
+    gather(table, &mut columns);
+    match choose(&columns, table.len(), store, operation, name, mark, offered) {
+        Ok(change) => {
+            if let Some((slot, symbol)) = change.stored {
+                table[slot] = symbol;
+            }
+            accepted(change.effect.into())
+        }
+        Err(e) => refused(e),
     }
-    table[at] = c.symbol;
-    c.answer
 }

@@ -1,28 +1,33 @@
-use mathlib.Core.Path.{◌≡◌, ◌∙◌}
-use lib.Dec.{le→leb}
-use Rattle.std.proofs.Math.Arith.{lt→nleb}
-use Rattle.symbol_lent.specs.AsCoded.{gathered}
-use Rattle.symbol_operations.specs.AsCoded.{of_operation}
-use Rattle.symbol_change.proofs.Outcomes.{answer-is, store_is, table_kept, table-set}
-use Rattle.symbols.proofs.Whole.{chosen}
+use mathlib.Core.Path.{refl, ap, ◌∙◌}
+use Prim.Native.Nat.{◌<◌}
+use native.Mathlib.Omega.{arith}
+use lib.ListN.{length}
+use Rattle.write_answer.specs.Flat.{accepted}
+use Rattle.symbols.proofs.Whole.{answered, store-changed, table-kept, table-changed, slot_within}
 use Rattle.symbols.proofs.change.change_symbol.Goals as goal
+use Rattle.symbols.proofs.change.change_symbol.Goals.{in-Some, in_default}
 
-pub returns-then-table-at : goal.returns-then-table-at
-returns-then-table-at c =
-    let a = c.args in
-    let op = of_operation a.operation in
-    let s = chosen op a.id a.authority a.place a.mark a.offered.now a.table.now a.store.now c.gather.new.flat c.choose-c.result c.choose-c.new.store c.gather.ensures c.choose-c.ensures in (
-      answer-is op a.id a.authority a.place a.mark a.offered.now a.table.now a.store.now c.choose-c.result s.0,
-      table_kept op a.id a.authority a.place a.mark a.offered.now a.table.now a.store.now c.choose-c.result s.0 (le→leb _ _ c.if-table-at.true),
-      s.1 ∙ store_is op a.id a.authority a.place a.mark a.offered.now a.table.now a.store.now,
-    )
+pub offset_bounds-table-slot : goal.offset_bounds-table-slot
+offset_bounds-table-slot c =
+    let within : c.in-Some.slot < length c.args.table.now = slot_within _ _ _ _ _ _ _ _ _ _ c.gather.ensures _ c.in-Ok.ensures _ _ c.in-Some.is in
+    record { fits = omega (arith, within) }
 
-pub returns : goal.returns
-returns c =
-    let a = c.args in
-    let op = of_operation a.operation in
-    let s = chosen op a.id a.authority a.place a.mark a.offered.now a.table.now a.store.now c.gather.new.flat c.choose-c.result c.choose-c.new.store c.gather.ensures c.choose-c.ensures in (
-      answer-is op a.id a.authority a.place a.mark a.offered.now a.table.now a.store.now c.choose-c.result s.0,
-      table-set op a.id a.authority a.place a.mark a.offered.now a.table.now a.store.now c.choose-c.result s.0 (lt→nleb _ _ c.if-table-at.false),
-      s.1 ∙ store_is op a.id a.authority a.place a.mark a.offered.now a.table.now a.store.now,
-    )
+pub bounds-table-slot : goal.bounds-table-slot
+bounds-table-slot c = slot_within _ _ _ _ _ _ _ _ _ _ c.gather.ensures _ c.in-Ok.ensures _ _ c.in-Some.is
+
+pub returns-after-change : goal.returns-after-change
+returns-after-change c = (
+  answered _ _ _ _ _ _ _ _ _ _ c.gather.ensures _ c.in-Ok.ensures _ (c.accepted.ensures ∙ ap accepted c.into.ensures),
+  elim c.match-change.branch [
+    | in-Some w ↦ table-changed _ _ _ _ _ _ _ _ _ _ c.gather.ensures _ c.in-Ok.ensures _ _ w.in-Some.is _ w.table-is
+    | in_default w ↦ table-kept _ _ _ _ _ _ _ _ _ _ c.gather.ensures _ c.in-Ok.ensures _ w.in_default.is w.table-is
+  ],
+  store-changed _ _ _ _ _ _ _ _ _ _ c.gather.ensures _ c.in-Ok.ensures,
+)
+
+pub returns-in-Err : goal.returns-in-Err
+returns-in-Err c = (
+  answered _ _ _ _ _ _ _ _ _ _ c.gather.ensures _ c.in-Err.ensures _ c.refused.ensures,
+  table-kept _ _ _ _ _ _ _ _ _ _ c.gather.ensures _ c.in-Err.ensures _ refl refl,
+  store-changed _ _ _ _ _ _ _ _ _ _ c.gather.ensures _ c.in-Err.ensures,
+)
