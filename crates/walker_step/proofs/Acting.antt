@@ -6,78 +6,20 @@ use mathlib.Core.List.{List, ◌∷◌}
 use Prim.Native.Nat.{ℕ, ◌≤◌, ◌<◌}
 use lib.Dec.{eqb, leb}
 use lib.ListN.{length, drop}
-use borrow.Author.Tests.{eq-eqb, ne_eqb, eqb-true, leb-true, leb-false}
+use borrow.Author.Tests.{eqb-true, leb-true, leb-false}
+use Rattle.std.specs.Prelude.{Option, Some, None}
 use Rattle.type_numbers.specs.Kind as kind
-use Rattle.type_layers.specs.Layers.{Layer, layers, outer, inside, inner_words, is_array, is_reference}
+use Rattle.type_layers.specs.Layers.{Layer, layers, outer, inside, is_array, is_reference}
 use Rattle.type_layers.specs.AsCoded.{Whole}
 use Rattle.type_layers.proofs.Words.{inner-layers, inner-whole, none, more}
-use Rattle.type_layers.proofs.Decide.{yes, no}
 use Rattle.type_numbers.specs.Mark as of-mark
 use Rattle.plan_steps.specs.Steps.{Step}
 use Rattle.symbol_members.specs.Member.{Stored}
 use Rattle.walker_rule.specs.Walker.{Where, at, stuck, to_stored, element, member, act}
 use Rattle.symbol_members.specs.Members.{of_layers}
-use Rattle.walker_step.specs.AsCoded.{on_element, on_member, on_autodeslice, takes_off, move_of, seen, onward, desliced, sticks, moved, Current}
+use Rattle.walker_step.specs.AsCoded.{on_element, on_member, move_of, seen, onward, desliced, moved, Current}
 use Rattle.walker_step.specs.declared.step_move.Move.{Move}
-use Rattle.walker_step.specs.declared.step_move.Move.TheVariants.{Stuck, Inside, TwoInside, Deslice, Member}
-
--- the decision, by what was tested
-module _ (s mark k l : ℕ) (there : Bool) where
-  pub by-element : (r : Move) → s ≡ 0 → r ≡ on_element k l → r ≡ move_of s mark k l there
-  unfolding move_of
-  by-element r e q = yes _ r _ _ (eq-eqb s 0 e) q
-
-  module _ (e₀ : s ≡ 0 → ⊥) where
-    pub by-member : (r : Move) → s ≡ 1 → r ≡ on_member k there → r ≡ move_of s mark k l there
-    unfolding move_of
-    by-member r e q = no _ r _ _ (ne_eqb s 0 e₀) (yes _ r _ _ (eq-eqb s 1 e) q)
-
-    module _ (e₁ : s ≡ 1 → ⊥) where
-      pub by-autodeslice : (r : Move) → s ≡ 2 → r ≡ on_autodeslice k mark → r ≡ move_of s mark k l there
-      unfolding move_of
-      by-autodeslice r e q = no _ r _ _ (ne_eqb s 0 e₀) (no _ r _ _ (ne_eqb s 1 e₁) (yes _ r _ _ (eq-eqb s 2 e) q))
-
-      module _ (e₂ : s ≡ 2 → ⊥) where
-        pub by-autoderef : (r : Move) → s ≡ 3 → r ≡ takes_off k kind.pointer → r ≡ move_of s mark k l there
-        unfolding move_of
-        by-autoderef r e q =
-            no _ r _ _ (ne_eqb s 0 e₀) (no _ r _ _ (ne_eqb s 1 e₁) (no _ r _ _ (ne_eqb s 2 e₂) (yes _ r _ _ (eq-eqb s 3 e) q)))
-
-        module _ (e₃ : s ≡ 3 → ⊥) where
-          pub by-autoview : (r : Move) → s ≡ 4 → r ≡ takes_off k kind.view → r ≡ move_of s mark k l there
-          unfolding move_of
-          by-autoview r e q =
-              no _ r _ _ (ne_eqb s 0 e₀)
-              (no _ r _ _ (ne_eqb s 1 e₁) (no _ r _ _ (ne_eqb s 2 e₂) (no _ r _ _ (ne_eqb s 3 e₃) (yes _ r _ _ (eq-eqb s 4 e) q))))
-
-          pub by-none : (s ≡ 4 → ⊥) → Stuck ≡ move_of s mark k l there
-          unfolding move_of
-          by-none e₄ = rw (ne_eqb s 0 e₀, ne_eqb s 1 e₁, ne_eqb s 2 e₂, ne_eqb s 3 e₃, ne_eqb s 4 e₄)
-
--- a move that the code found to be another is told as that one
-module _ (m n : Move) (e : m ≡ n) where
-  pub leads : (r ws stored : List ℕ) → r ≡ onward n ws stored → r ≡ onward m ws stored
-  leads r ws stored q = rw e q
-
-  pub stays-stuck : (b : Bool) → b ≡ sticks n → b ≡ sticks m
-  stays-stuck b q = rw e q
-
-  pub turns : (b : Bool) → b ≡ desliced n → b ≡ desliced m
-  turns b q = rw e q
-
-pub leads-in : (m : Move) (r l ws stored : List ℕ) → m ≡ TwoInside → l ≡ inner_words ws → r ≡ inner_words l → r ≡ onward m ws stored
-unfolding onward
-leads-in m r l ws stored e p q = rw (e, ← p) q
-
--- the outer kind
-module _ (ws : List ℕ) (b : Bool) where
-  pub counts-as-arraylike : b ≡ true → 19 ≡ outer (seen ws b)
-  unfolding seen outer
-  counts-as-arraylike e = rw e
-
-  pub counts-as-it-is : (r : ℕ) → b ≡ false → r ≡ outer (layers ws) → r ≡ outer (seen ws b)
-  unfolding seen
-  counts-as-it-is r e q = rw e q
+use Rattle.walker_step.specs.declared.step_move.Move.TheVariants.{Inside, TwoInside, Deslice, Member}
 
 -- the inner type is that of the words
 pub seen-inside : (ws : List ℕ) (b : Bool) → inside (seen ws b) ≡ layers (drop 3 ws)
@@ -93,24 +35,24 @@ module _ (ws m : List ℕ) (b : Bool) where
   abbrev l : ℕ
   l = outer (layers (drop 3 ws))
 
-  by-test : (f : Bool) (x y : Where) (p q : Move) → (f ≡ true → x ≡ moved p ws m) → y ≡ moved q ws m → cond f x y ≡ moved (cond f p q) ws m
+  by-test : (f : Bool) (x y : Where) (p q : Option Move) → (f ≡ true → x ≡ moved p ws m) → y ≡ moved q ws m → cond f x y ≡ moved (cond f p q) ws m
   by-test true x y p q g h = g refl
   by-test false x y p q g h = h
 
-  on-stuck : stuck ≡ moved Stuck ws m
-  unfolding moved sticks
+  on-stuck : stuck ≡ moved None ws m
+  unfolding moved
   on-stuck = refl
 
-  on-inside : at (inside t) ≡ moved Inside ws m
-  unfolding moved sticks onward desliced seen
+  on-inside : at (inside t) ≡ moved (Some Inside) ws m
+  unfolding moved onward desliced seen
   on-inside = ap at (seen-inside ws b)
 
-  on-two-inside : at (inside (inside t)) ≡ moved TwoInside ws m
-  unfolding moved sticks onward desliced seen
+  on-two-inside : at (inside (inside t)) ≡ moved (Some TwoInside) ws m
+  unfolding moved onward desliced seen
   on-two-inside = ap (λ (u : List Layer). at (inside u)) (seen-inside ws b) ∙ ap at (sym (inner-layers (drop 3 ws)))
 
-  on-deslice : at (record { kind = kind.arraylike; name = 0; number = 0 } ∷ inside t) ≡ moved Deslice ws m
-  unfolding moved sticks onward desliced seen
+  on-deslice : at (record { kind = kind.arraylike; name = 0; number = 0 } ∷ inside t) ≡ moved (Some Deslice) ws m
+  unfolding moved onward desliced seen
   on-deslice = ap (λ (u : List Layer). at (record { kind = kind.arraylike; name = 0; number = 0 } ∷ u)) (seen-inside ws b ∙ inner-layers ws)
 
   on-element : element t ≡ moved (on_element (outer t) l) ws m
@@ -120,7 +62,7 @@ module _ (ws m : List ℕ) (b : Bool) where
       ∙ by-test (is_reference (outer t) && eqb l kind.arraylike) _ _ _ _ (λ e. on-two-inside) on-stuck)
 
   on-member : member (of_layers (layers m)) t ≡ moved (on_member (outer t) (leb 3 (length m))) ws m
-  unfolding moved sticks onward desliced seen
+  unfolding moved onward desliced seen
   on-member = by-words (leb 3 (length m)) refl
     where
       k : Bool
@@ -129,10 +71,10 @@ module _ (ws m : List ℕ) (b : Bool) where
       here : 3 ≤ length m → to_stored (of_layers (layers m)) ≡ at (layers m)
       here h = rw (more m h)
 
-      on_typed : at (layers m) ≡ moved Member ws m
+      on_typed : at (layers m) ≡ moved (Some Member) ws m
       on_typed = refl
 
-      by-words : (f : Bool) → leb 3 (length m) ≡ f → cond k (to_stored (of_layers (layers m))) stuck ≡ moved (cond (k && f) Member Stuck) ws m
+      by-words : (f : Bool) → leb 3 (length m) ≡ f → cond k (to_stored (of_layers (layers m))) stuck ≡ moved (cond (k && f) (Some Member) None) ws m
       by-words true e = rw (and-true k) (by-test k _ _ _ _ (λ _. here (leb-true 3 (length m) e) ∙ on_typed) on-stuck)
       by-words false e = rw (and-false k, none m (leb-false 3 (length m) e)) (absent k ∙ on-stuck)
         where
@@ -154,11 +96,11 @@ module _ (ws m : List ℕ) (b : Bool) where
 abbrev slices : ℕ → ℕ → Bool
 slices k mark = eqb k kind.slice && eqb mark of-mark.by_view || eqb k kind.slice_pointer && eqb mark of-mark.by_pointer
 
-by-outcome : {Q : Type 0} (f : Bool) (x y : Move) → (f ≡ true → x ≡ Deslice → Q) → (y ≡ Deslice → Q) → cond f x y ≡ Deslice → Q
+by-outcome : {Q : Type 0} (f : Bool) (x y : Option Move) → (f ≡ true → x ≡ Some Deslice → Q) → (y ≡ Some Deslice → Q) → cond f x y ≡ Some Deslice → Q
 by-outcome true x y g h e = g refl e
 by-outcome false x y g h e = h e
 
-deslices : (s mark k l : ℕ) (there : Bool) → move_of s mark k l there ≡ Deslice → slices k mark ≡ true
+deslices : (s mark k l : ℕ) (there : Bool) → move_of s mark k l there ≡ Some Deslice → slices k mark ≡ true
 unfolding move_of
 deslices s mark k l there =
     by-outcome (eqb s 0) _ _ (λ _. by-outcome (is_array k) _ _ (λ _ e. cc) (by-outcome (is_reference k && eqb l kind.arraylike) _ _ (λ _ e. cc) (λ e. cc)))
@@ -173,10 +115,9 @@ no-slice ws true mark h = refl
 no-slice ws false mark h = rw (none ws h)
 
 -- whole layers stay whole
-pub moves-on : (ws m : List ℕ) (b : Bool) (s mark l : ℕ) (there : Bool) (x : Move) → x ≡ move_of s mark (outer (seen ws b)) l there →
+pub moves-on : (ws m : List ℕ) (b : Bool) (s mark l : ℕ) (there : Bool) (x : Move) → Some x ≡ move_of s mark (outer (seen ws b)) l there →
     Whole ws → Whole m → Current (onward x ws m) (desliced x)
 unfolding onward desliced
-moves-on ws m b s mark l there Stuck e w v = (w, λ f. absurd (false≢true f))
 moves-on ws m b s mark l there Inside e w v = (inner-whole ws w, λ f. absurd (false≢true f))
 moves-on ws m b s mark l there TwoInside e w v = (inner-whole (drop 3 ws) (inner-whole ws w), λ f. absurd (false≢true f))
 moves-on ws m b s mark l there Member e w v = (v, λ f. absurd (false≢true f))

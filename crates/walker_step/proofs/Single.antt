@@ -12,8 +12,6 @@ use Rattle.walker_step.proofs.step_move.kind_of.Kinds as kind-of-kinds
 use Rattle.walker_step.proofs.step_move.kind_of.Reads as kind-of
 use Rattle.walker_step.proofs.step_move.go.Kinds as go-kinds
 use Rattle.walker_step.proofs.step_move.go.Reads as go
-use Rattle.walker_step.proofs.step_move.is_stuck.Kinds as is-stuck-kinds
-use Rattle.walker_step.proofs.step_move.is_stuck.Reads as is_stuck
 use Rattle.walker_step.proofs.step_move.is_desliced.Kinds as is-desliced-kinds
 use Rattle.walker_step.proofs.step_move.is_desliced.Reads as is-desliced
 
@@ -29,6 +27,3 @@ go-single κs a x y s t p q = p ∙ sym q
 
 pub is-desliced-single : Single 0 is-desliced-kinds.ps is-desliced-kinds.r is-desliced.Post
 is-desliced-single κs a x y s t p q = p ∙ sym q
-
-pub is-stuck-single : Single 0 is-stuck-kinds.ps is-stuck-kinds.r is_stuck.Post
-is-stuck-single κs a x y s t p q = p ∙ sym q

@@ -3,4 +3,4 @@
 
 mod step_move;
 
-pub use step_move::{Move, go, is_desliced, is_stuck, kind_of, move_of};
+pub use step_move::{Move, go, is_desliced, kind_of, move_of};
