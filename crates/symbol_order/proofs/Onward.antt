@@ -5,20 +5,17 @@ use mathlib.Core.Bool.{Bool, true, false, cond, not, ◌&&◌, ◌||◌, true≢
 use mathlib.Core.List.{List, [], ◌∷◌, ◌++◌}
 use mathlib.Core.Logic.{◌≢◌}
 use Prim.Native.Nat.{ℕ, zero, suc, ◌+◌, ◌-◌, ◌*◌, ◌%◌, ◌≤◌, ◌<◌}
-use native.Mathlib.Nat.{zero-add, not-suc-le-zero}
+use native.Mathlib.Nat.{zero-add}
 use native.Mathlib.Omega.{arith}
 use lib.Dec.{eqb, leb}
 use lib.ListN.{length, take, drop, get_or, set, length-set, length-take}
 use Rattle.std.proofs.lemmas.List.{get_or-take}
 use lib.Seq.{drop-drop, get_or-set_same, get_or-set_other}
-use borrow.Author.Tests.{lt-leb, eq-eqb, ne_eqb, eqb-true, eqb-false}
-use Rattle.type_layers.specs.Answer.{is_given}
+use borrow.Author.Tests.{lt-leb, ne_eqb, eqb-true, eqb-false}
 use Rattle.type_layers.proofs.Decide.{both, neither, eqb-sym}
 use Rattle.symbol_columns.specs.declared.symbol.Symbol.{Symbol}
 use Rattle.symbol_columns.specs.Record.{free}
 use Rattle.symbol_columns.specs.AsCoded.{row_at, read_from}
-use Rattle.symbol_columns.specs.StoredWords.{stored_words}
-use Rattle.type_checks.specs.Check.{check_of}
 use Rattle.symbol_columns.proofs.Reading.{from, read_more, read-end, read_all, read-last, length-read}
 use Rattle.symbol_order.specs.Order.{known_states, all_free, taken_first, taken, has_id, repeats, passes, all_pass, in_order}
 use Rattle.symbol_order.specs.AsCoded.{stands, Noted}
@@ -244,9 +241,6 @@ other_store ws w n h = last (leb (length (read_from ws 0 n)) 128 && known_states
     last false b e = refl
 
 -- the ids of the rows passed, noted
-pub noted_start : (noted : List Bool) (ws : List ℕ) → Noted noted ws 0
-noted_start noted ws = record { before = λ i h. absurd (not-suc-le-zero h) }
-
 pub still_full : (noted : List Bool) (i : ℕ) (b : Bool) → length noted ≡ 512 → length (set noted i b) ≡ 512
 still_full noted i b e = simp length-set e
 
@@ -299,13 +293,3 @@ id_more ws k id i h =
     let within : i < k = omega (arith, simp length-take at h) in
     ap (λ (x : ℕ). has_id id (read_from ws 0 i) || eqb x id) (get_or-take k ws i 0 within ∙ ap (λ (j : ℕ). get_or ws j 0) (sym (zero-add i)))
     ∙ sym (ap (has_id id) (read-last ws 0 i) ∙ one_more id (read_from ws 0 i) (row_at ws (0 + i)))
-
--- a typed record's words
-pub words-pass : (state layers : ℕ) (ws stored : List ℕ) (r : Bool) → state ≡ 1 → stored ≡ stored_words layers ws → r ≡ is_given (check_of stored) →
-    r ≡ passes state layers ws
-unfolding passes
-words-pass state layers ws stored r e p q = rw (eq-eqb state 1 e, ← p) q
-
--- a slot's words
-pub slot : (w : List ℕ) (k n : ℕ) → length w ≡ n * 48 → k < n → k * 48 + 48 ≤ length w
-slot w k n l h = omega arith

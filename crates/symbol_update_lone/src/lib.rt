@@ -1,4 +1,4 @@
-// The update of a record that stands alone with its words, by value and lent. In the Rust: `do_update_symbol`.
+// The update of a record that stands alone with its words, answered by a Result and as C has it. In the Rust: `do_update_symbol`.
 #![tactic(auto)]
 
 mod lone;
