@@ -1,12 +1,12 @@
 -- Sub-autoderefs and autoderefs, as the code asks them.
 -- Assumes nothing.
 use mathlib.Core.Path.{◌≡◌, refl}
-use mathlib.Core.Bool.{Bool, true, false, cond, ◌&&◌, ◌||◌, or_assoc, false≢true}
+use mathlib.Core.Bool.{Bool, true, false, cond, ◌&&◌, ◌||◌, or_assoc, false≢true, not}
 use mathlib.Core.List.{List, [], ◌∷◌}
 use Prim.Native.Nat.{ℕ, ◌≤◌, ◌<◌}
 use lib.Dec.{eqb}
 use lib.ListN.{length, get_or}
-use borrow.Author.Tests.{eq-eqb, ne_eqb, eqb-true}
+use borrow.Author.Tests.{eq-eqb, ne_eqb, eqb-true, not-false}
 use Rattle.type_numbers.specs.Kind as kind
 use Rattle.type_layers.specs.Layers.{Layer, layers, outer, inside, inner_words, is_reference}
 use Rattle.type_layers.specs.AsCoded.{head}
@@ -27,6 +27,12 @@ module _ (a b : List ℕ) where
     pub sub_other : is_reference (get_or a 0 0) ≡ false → subautoderefs (layers a) (layers b) ≡ false
     unfolding subautoderefs
     sub_other e = rw (more a, e)
+
+    -- where a holds what equals b
+    pub sub-equal : (t : Bool) → t ≡ is_reference (get_or a 0 0) → not t ≡ false → (f : Bool) → f ≡ equals (layers (rest a)) (layers b) → f ≡ true →
+        f ≡ subautoderefs (layers a) (layers b)
+    unfolding subautoderefs
+    sub-equal t e q f p g = rw (more a, ← e, not-false t q, ← p, g)
 
     module _ (e : is_reference (get_or a 0 0) ≡ true) where
       pub sub_held : outer (layers b) ≡ get_or a 0 0 → subautoderefs (layers a) (layers b) ≡ subautoderefs (layers (rest a)) (layers (inner_words b))

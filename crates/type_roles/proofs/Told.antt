@@ -1,6 +1,6 @@
 -- A role, by what the code found.
 -- Assumes nothing.
-use mathlib.Core.Path.{◌≡◌, sym, ap, ◌∙◌}
+use mathlib.Core.Path.{◌≡◌, sym, ◌∙◌}
 use mathlib.Core.Bool.{Bool, true, false}
 use mathlib.Core.List.{List}
 use Prim.Native.Nat.{ℕ, ◌<◌}
@@ -21,13 +21,17 @@ use Rattle.type_roles.specs.declared.grid.Entry.{Entry}
 use Rattle.type_roles.specs.declared.role.Role.{Role}
 use Rattle.type_roles.proofs.Theorems.{row_number, in-grid, by-grid}
 
--- what is found in row i of the code's grid, where that is the row of the role
+-- what is found in row i of a grid, where that is the row of the role
+pub looked-up : (p q : Role) (rows : List (List ℕ)) (ds : List ℕ) (i k r d : ℕ) → rows ≡ grid → p ≡ q → i ≡ row_number q →
+    k < kind.none → r ≡ get_or (get_or rows i ds) k d → r ≡ entry_of p k
+looked-up p q rows ds i k r d e f g h j = rw (j, e, f, g) (in-grid q k d ds h)
+
+-- the same of the code's grid, by the values of its entries
 pub looked_up : (p q : Role) (rows : List (List Entry)) (ds : List Entry) (i k r d : ℕ) → map (map value_of) rows ≡ grid → p ≡ q → i ≡ row_number q →
     k < kind.none → r ≡ get_or (map value_of (get_or rows i ds)) k d → r ≡ entry_of p k
 looked_up p q rows ds i k r d e f g h j =
-    let row : get_or grid i (map value_of ds) ≡ map value_of (get_or rows i ds) =
-    ap (λ (rs : List (List ℕ)). get_or rs i (map value_of ds)) (sym e) ∙ get_or-map (map value_of) rows i ds in
-    rw (j, ← row, f, g) (in-grid q k d (map value_of ds) h)
+    let row : get_or (map (map value_of) rows) i (map value_of ds) ≡ map value_of (get_or rows i ds) = get_or-map (map value_of) rows i ds in
+    looked-up p q (map (map value_of) rows) (map value_of ds) i k r d e f g h (rw (← row) at j)
 
 -- the outer kind of words that pass has an entry in each row
 pub has_entry : (ws : List ℕ) (x : Result ℕ Refused) (n k : ℕ) → of_result x ≡ check_of ws → x ≡ Ok n → k ≡ outer (layers ws) → k < kind.none
