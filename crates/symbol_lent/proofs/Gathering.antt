@@ -16,6 +16,17 @@ use Rattle.symbol_columns.specs.AsCoded.{bit, six_set, put_row, row_at, read_fro
 use Rattle.symbol_columns.specs.declared.symbol.Symbol.{Symbol}
 use Rattle.symbol_columns.proofs.Reading.{length-read}
 use Rattle.symbol_lent.specs.AsCoded.{rows_into, gathered_into, gathered}
+use native.Mathlib.Numerals.{add-one}
+
+-- a record more in its columns; of more than 128 records the columns stay
+module _ (ws : List ℕ) (table : List Symbol) where
+  pub rows_next : (k : ℕ) → rows_into ws table (k + 1) ≡ put_row (rows_into ws table k) k (get_or table k vacant)
+  unfolding rows_into
+  rows_next k = ap (rows_into ws table) (add-one k)
+
+  pub gather-many : 128 < length table → ws ≡ gathered_into ws table
+  unfolding gathered_into
+  gather-many h = rw (lt-ltb 128 (length table) h)
 
 -- what stands in the rows is what was put there
 bit-back : (b : Bool) → eqb (bit b) 1 ≡ b

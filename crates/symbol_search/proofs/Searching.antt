@@ -8,7 +8,7 @@ use native.Mathlib.Omega.{arith}
 use lib.ListN.{length, take, drop, get_or, length-take, length-drop}
 use lib.Seq.{drop-cons}
 use lib.Dec.{eqb, ltb}
-use borrow.Author.Tests.{ltb-true, ltb-false, lt-ltb, le-ltb, eqb-true}
+use borrow.Author.Tests.{ltb-true, ltb-false, lt-ltb, le-ltb, eqb-true, eq-eqb}
 use Rattle.symbol_columns.specs.Record.{vacant, free}
 use Rattle.symbol_columns.specs.AsCoded.{row_at, read_from}
 use Rattle.symbol_columns.specs.declared.symbol.Symbol.{Symbol}
@@ -17,6 +17,7 @@ use Rattle.std.proofs.lemmas.Slice.Zip.{length-zip}
 use Rattle.std.specs.List.{zip, position_or_len}
 use Rattle.symbol_search.specs.Search.{first_free, slot_for, among}
 use Rattle.symbol_search.specs.AsCoded.{free_in, slot_in}
+use Rattle.symbol_columns.proofs.Reading.{from, read_more}
 
 -- more than 128 rows: none is found
 module _ (ws : List ℕ) (n : ℕ) (h : 128 < n) where
@@ -27,6 +28,18 @@ module _ (ws : List ℕ) (n : ℕ) (h : 128 < n) where
   pub slot_many : (id : ℕ) → None ≡ among n (slot_in ws n id)
   unfolding slot_in
   slot_many id = rw (lt-ltb 128 n h, le-ltb n n (omega arith))
+
+-- a search for a free record that has passed i of them
+abbrev pub FreePassed : List ℕ → ℕ → ℕ → Type 0
+FreePassed ws n i = first_free (read_from ws 0 n) ≡ i + first_free (from ws n i)
+
+-- it finds the next one, where that is free
+pub free-found : (ws : List ℕ) (n i : ℕ) → n ≤ 128 → FreePassed ws n i → i < n → get_or ws (i + 384) 0 ≡ 0 → i ≡ free_in ws n
+unfolding first_free row_at free_in
+free-found ws n i few p h z =
+    let e : first_free (from ws n i) ≡ 0 = rw (read_more ws n i h, eq-eqb (get_or ws (i + 384) 0) 0 z) in
+    let is : i ≡ first_free (read_from ws 0 n) = omega (arith, e, p) in
+    is ∙ rw (le-ltb 128 n few)
 
 -- a search through records is one through the words of their columns
 stops : (b : Bool) (m : ℕ) → cond b 0 (suc m) ≡ cond (not b) (1 + m) 0
