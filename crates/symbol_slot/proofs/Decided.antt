@@ -10,7 +10,7 @@ use borrow.Author.Tests.{lt-ltb, le-ltb, ltb-true, ltb-false, not-true, not-fals
 use Rattle.std.proofs.Common.{Some, None}
 use Rattle.type_numbers.specs.Refusal.{number_of}
 use Rattle.type_numbers.specs.declared.refusal.Refusal.TheVariants.{TableNotInOrder, TableFull}
-use Rattle.type_layers.specs.Answer.{Answer, given, nothing, refused, IsUnplaced}
+use Rattle.type_layers.specs.Answer.{Answer, given, nothing, refused, IsUnplaced, of_result}
 use Rattle.type_layers.specs.declared.answers.Refused.{Refused}
 use Rattle.symbol_columns.specs.declared.symbol.Symbol.{Symbol}
 use Rattle.symbol_columns.specs.Record.{vacant}
@@ -25,6 +25,13 @@ use Rattle.symbol_operations.specs.Act.{Act}
 use Rattle.symbol_slot.specs.Way as way
 use Rattle.symbol_slot.specs.Way.{Way}
 use Rattle.symbol_slot.specs.Slot.{offered_check, place_of, unless, way_of}
+use Rattle.std.specs.Prelude.{Result, Err}
+
+-- the refusals of the offered type come first
+pub offer-refused : (a : Act) (id : ℕ) (offered : List ℕ) (table : List Symbol) (w : List ℕ) (x : Result ℕ Refused) → of_result x ≡ offered_check a offered →
+    (r : Refused) → x ≡ Err r → way.refused (number_of r.refusal) r.place ≡ way_of a id offered table w
+unfolding way_of
+offer-refused a id offered table w x e r h = rw (← e, h)
 
 -- the record's place
 module _ (ws w : List ℕ) (n id : ℕ) (o : Bool) (e : o ≡ in_order (read_from ws 0 n) w) where

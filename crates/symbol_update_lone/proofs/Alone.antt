@@ -1,20 +1,24 @@
 -- A record that stands alone: whether it is in order, and what becomes of it, by what the code tested.
 -- Assumes nothing.
-use mathlib.Core.Path.{◌≡◌, refl}
-use mathlib.Core.Bool.{Bool, true, false, cond, not, ◌&&◌}
+use mathlib.Core.Path.{◌≡◌, refl, sym, ap, ◌∙◌}
+use mathlib.Core.Bool.{Bool, true, false, cond, not, ◌&&◌, true≢false}
 use mathlib.Core.List.{List, [], ◌∷◌}
 use Prim.Native.Nat.{ℕ, ◌<◌}
 use native.Mathlib.Omega.{arith}
 use lib.Dec.{eqb, leb}
 use lib.ListN.{length, take}
 use lib.Seq.{take_all}
-use borrow.Author.Tests.{eqb-false, ne_eqb, lt-leb}
-use Rattle.type_layers.specs.Answer.{is_given}
+use borrow.Author.Tests.{eqb-false, ne_eqb, lt-leb, not-true}
+use Rattle.type_layers.specs.Answer.{is_given, of_result}
 use Rattle.type_checks.specs.Check.{check_of}
 use Rattle.symbol_order.specs.Order.{known_states, all_free, taken_first, taken, has_id, repeats, passes, all_pass, in_order}
 use Rattle.symbol_columns.specs.declared.symbol.Symbol.{Symbol}
 use Rattle.symbol_columns.specs.StoredWords.{stored_words}
-use Rattle.symbol_update_lone.specs.Lone.{lone_in_order}
+use Rattle.symbol_update_lone.specs.Lone.{lone_in_order, lone_check, lone_updated}
+use Rattle.std.specs.Prelude.{Result, Ok, Err}
+use Rattle.type_layers.specs.declared.answers.Refused.{Refused}
+use Rattle.write_answer.specs.declared.answer.Answer.{Answer}
+use Rattle.write_answer.specs.Flat.{flat}
 
 -- a table of one record
 module _ (s : Symbol) (ws : List ℕ) where
@@ -61,3 +65,15 @@ module _ (s : Symbol) (ws : List ℕ) where
         pub typed_fits : (stored : List ℕ) (r : Bool) → stored ≡ stored_words s.layers ws → r ≡ is_given (check_of stored) → r ≡ lone_in_order s ws
         unfolding passes
         typed_fits stored r q f = rw (one, h, t, take_all 48 ws (omega (arith, h)), ← q, f)
+
+-- the refusals of the offered words come first; g is whether they pass
+pub answers-refused : (s : Symbol) (ws : List ℕ) (authority : Bool) (offered : List ℕ) (g : Bool) → g ≡ is_given (check_of offered) → not g ≡ true →
+    (x : Result ℕ Refused) → of_result x ≡ check_of offered → (id place : ℕ) (a : Answer) → a ≡ flat (of_result x) →
+    record { symbol = s; answer = a } ≡ lone_updated s ws id authority place offered
+unfolding lone_updated lone_check flat
+answers-refused s ws authority offered g e f x q id place a h = by-checks x q h
+  where
+    by-checks : (y : Result ℕ Refused) → of_result y ≡ check_of offered → a ≡ flat (of_result y) →
+        record { symbol = s; answer = a } ≡ lone_updated s ws id authority place offered
+    by-checks (Ok n) p r = absurd (true≢false (ap is_given p ∙ (sym e ∙ not-true g f)))
+    by-checks (Err y) p r = rw (← p, r)
