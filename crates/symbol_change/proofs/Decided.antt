@@ -1,14 +1,14 @@
 -- What is done to the record of a slot that was chosen, as the core meets it: in a table that is read out of columns.
 -- Assumes nothing.
 use mathlib.Core.Path.{◌≡◌, sym, ap, subst, ◌∙◌}
-use mathlib.Core.Bool.{Bool, false}
+use mathlib.Core.Bool.{Bool, false, true}
 use mathlib.Core.List.{List, ◌++◌}
 use Prim.Native.Nat.{ℕ, ◌+◌, ◌-◌, ◌*◌, ◌≤◌, ◌<◌}
 use native.Mathlib.Omega.{arith}
 use lib.Dec.{eqb}
 use lib.ListN.{length, take, drop, get_or}
 use borrow.Author.Tests.{ne_eqb}
-use Rattle.std.specs.Prelude.{Ok}
+use Rattle.std.specs.Prelude.{Ok, Result, Err}
 use Rattle.type_numbers.specs.Refusal.{number_of}
 use Rattle.type_layers.specs.declared.answers.Refused.{Refused}
 use Rattle.symbol_columns.specs.declared.symbol.Symbol.{Symbol}
@@ -27,8 +27,21 @@ use Rattle.symbol_slot.specs.declared.slot.Way.{Way}
 use Rattle.symbol_slot.specs.declared.slot.Way.TheVariants as code
 use Rattle.symbol_slot.proofs.Decided.{Within, found_in, found-has, new_in}
 use Rattle.symbol_record.specs.Deed.{Deed, filled, filled_words, overwrites}
-use Rattle.symbol_change.specs.Change.{outcome_by, outcome}
+use Rattle.symbol_change.specs.Change.{outcome_by, outcome, nothing_put}
 use Rattle.symbol_change.specs.AsCoded.{Chosen, nowhere, in_slot, if_changed, change_of, store_of}
+use Rattle.symbol_order.specs.Order.{in_order}
+
+-- a put with nothing into a table that is in order
+pub is-accepted : (table : List Symbol) (store : List ℕ) (o : Bool) → o ≡ in_order table store → (a : Answer) (r : Chosen) → o ≡ true →
+    a ≡ accepted 0 → r ≡ nowhere a → r ≡ nowhere (nothing_put table store)
+is-accepted table store o e a r f h q = rw (← e, f, ← h) q
+
+-- an act that is refused leaves the store
+pub kept-refused : (act : Act) (id : ℕ) (authority : Bool) (place mark : ℕ) (offered : List ℕ) (table : List Symbol) (store : List ℕ) (x : Result Way Refused) →
+    of_way x ≡ way_of act id offered table store → (r : Refused) → x ≡ Err r → store ≡ store_of (acts act) id authority place mark offered table store
+unfolding store_of outcome
+kept-refused act id authority place mark offered table store x e r h =
+    ap (λ (w : way.Way). (outcome_by w act id authority place mark offered table store).store) (ap of_way (sym h) ∙ e)
 
 module _ (act : Act) (id : ℕ) (offered flat : List ℕ) (n : ℕ) (store : List ℕ) (w : Way)
     (e : of_way (Ok w) ≡ way_of act id offered (read_from flat 0 n) store) (k : ℕ) where

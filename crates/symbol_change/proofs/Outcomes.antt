@@ -69,15 +69,15 @@ module _ (a : Act) (id : ℕ) (authority : Bool) (place mark : ℕ) (offered : L
   same-record act.forward_type s ws e = absurd (true≢false e)
 
   -- where no record is stored, the table is what it was
-  kept-by : (w : Way) → (by w).stored ≡ None → table ≡ (outcome_by w a id authority place mark offered table store).table
-  kept-by (way.refused n p) q = refl
-  kept-by (way.found k) q = by-test (is_changed (done k).answer) refl q
+  inside-or : (w : Way) → (by w).stored ≡ None → table ≡ (outcome_by w a id authority place mark offered table store).table
+  inside-or (way.refused n p) q = refl
+  inside-or (way.found k) q = by-test (is_changed (done k).answer) refl q
     where
       by-test : (t : Bool) → is_changed (done k).answer ≡ t →
           (cond t (in_slot k (done k).symbol (done k).answer) (nowhere (done k).answer)).stored ≡ None → table ≡ set table k (done k).symbol
       by-test true f g = cc
       by-test false f g = sym (ap (set table k) (same-record a (get_or table k vacant) (slot_words store k) f) ∙ set_same table k vacant)
-  kept-by (way.free k) q = cc
+  inside-or (way.free k) q = cc
 
   -- where one is, it is stored in its slot, which is within the table
   module _ (k : ℕ) (s : Symbol) where
@@ -123,7 +123,7 @@ module _ (op : Operation) (id : ℕ) (authority : Bool) (place mark : ℕ) (offe
     where
       by-operation : (o : Operation) → (change o).stored ≡ None → table ≡ (outcome o id authority place mark offered table store).table
       by-operation put_nothing q = refl
-      by-operation (acts a) q = kept-by a id authority place mark offered table store (way_of a id offered table store) q
+      by-operation (acts a) q = inside-or a id authority place mark offered table store (way_of a id offered table store) q
 
   module _ (k : ℕ) (s : Symbol) where
     pub table_set : (change op).stored ≡ Some (k, s) → set table k s ≡ (outcome op id authority place mark offered table store).table

@@ -5,7 +5,7 @@ use mathlib.Core.Bool.{Bool, true, false, cond, not, false≢true}
 use mathlib.Core.List.{List}
 use Prim.Native.Nat.{ℕ, ◌≤◌, ◌<◌}
 use lib.Dec.{eqb, leb}
-use lib.ListN.{length, get_or}
+use lib.ListN.{length, get_or, take}
 use borrow.Author.Tests.{lt-leb, le-leb, leb-false, eq-eqb, ne_eqb, not-true, not-false}
 use Rattle.symbol_columns.specs.declared.symbol.Symbol.{Symbol}
 use Rattle.symbol_columns.specs.Record.{vacant}
@@ -25,6 +25,10 @@ use Rattle.type_layers.specs.Answer.{IsUnplaced}
 use Rattle.symbol_get.specs.Get.{mark_for, got, type_in, type_of}
 use Rattle.symbol_get.specs.Got as got'
 use Rattle.symbol_get.specs.Got.{Got}
+use Rattle.std.specs.Prelude.{Result, Ok}
+use Rattle.symbol_get.specs.AsCoded.{of_got}
+use Rattle.symbol_get.specs.declared.get.Found as coded
+use Rattle.symbol_get.specs.declared.get.Found.TheVariants as code
 
 module _ (ws w : List ℕ) (n id : ℕ) (authority o : Bool) (e : o ≡ in_order (read_from ws 0 n) w) where
   pub get_refused : (x : Refused) → not o ≡ true → IsUnplaced TableNotInOrder x → got'.refused (number_of x.refusal) x.place ≡ got id authority (read_from ws 0 n) w
@@ -95,6 +99,12 @@ typed-is id asking table store k e =
     let s = get_or table (slot_for id table) vacant in
     let f = typed-parts (in_order table store) (leb (length table) (slot_for id table)) (eqb s.state 1) (slot_for id table) (mark_for asking s.mark) k e in
     (f.0, subst (λ (j : ℕ). j < length table) (sym f.2) (leb-false (length table) (slot_for id table) f.1), f.2)
+
+-- poison has no type
+pub type-poisoned : (flat : List ℕ) (n id : ℕ) (store : List ℕ) (g : Result coded.Found Refused) → of_got g ≡ got id true (read_from flat 0 n) store →
+    (m : ℕ) → g ≡ Ok (code.Poisoned m) → take 0 store ≡ type_of id (read_from flat 0 n) store
+unfolding type_of
+type-poisoned flat n id store g e m q = rw (← e, q)
 
 pub type_there : (flat : List ℕ) (n id : ℕ) (store : List ℕ) (k : ℕ) (s : Symbol) (slot r : List ℕ) →
     got'.typed k ≡ got id true (read_from flat 0 n) store → s ≡ row_under flat k id → slot ≡ slot_words store k → r ≡ stored_words s.layers slot →
