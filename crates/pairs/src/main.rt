@@ -15,7 +15,8 @@ fn buffer() -> [u8; Limit::SHEET_BYTES + 1]
     [0; Limit::SHEET_BYTES + 1]
 }
 
-// Reads until the buffer is full or the input ends, and says how many bytes stand in it then.
+// Reads until the buffer is full or the input ends, and says how many bytes stand in it then. `test_replay` has the same
+// function: a public one would need a contract that allows one outcome, and no clause says which bytes come in.
 fn read_full(input: &mut impl Read, out: &mut [u8]) -> io::Result<usize>
     ensures { IfOk result (λ n. n ≤ length out.new) }
 {

@@ -8,5 +8,5 @@ pub fn tj_fix_type_for_flags(t: &[u64], external: bool, context: u64, out: &mut 
     ensures answer { result ≡ rules.flat (fixed_answer t.now external context out.old) }
     ensures written { out.new ≡ fixed_buffer t.now external context out.old }
 {
-    write_answer::checked(extern_fixing::fix_type_for_flags(t, external, context, out))
+    Answer::from(extern_fixing::fix_type_for_flags(t, external, context, out))
 }

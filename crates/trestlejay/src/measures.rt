@@ -11,7 +11,7 @@ use write_answer::Answer;
 pub fn tj_pointer_depth(t: &[u64]) -> Answer
     ensures { result ≡ flat (pointer_depth_answer t.now) }
 {
-    face_measures::count(type_size_and_depth::pointer_depth(t))
+    Answer::from(type_size_and_depth::pointer_depth(t))
 }
 
 pub fn tj_known_size_in_bytes_as_word_member(t: &[u64], size: &mut u64) -> Answer

@@ -5,46 +5,46 @@ ghost use Rattle.type_properties.specs.Properties.{property_answer};
 ghost use Rattle.write_answer.specs.Flat.{flat};
 
 use type_properties::Property;
-use write_answer::{Answer, checked, verdict};
+use write_answer::Answer;
 
 pub fn tj_check(t: &[u64]) -> Answer
     ensures { result ≡ flat (check_of t.now) }
 {
-    checked(type_first_refusal::check_type(t))
+    Answer::from(type_first_refusal::check_type(t))
 }
 
 pub fn tj_is_wellformed(t: &[u64]) -> Answer
     ensures { result ≡ flat (well_formed_answer t.now) }
 {
-    verdict(type_wellformed::wellformed(t))
+    Answer::from(type_wellformed::wellformed(t))
 }
 
 pub fn tj_is_void(t: &[u64]) -> Answer
     ensures { result ≡ flat (property_answer Property.Void t.now) }
 {
-    verdict(type_properties::has(Property::Void, t))
+    Answer::from(type_properties::has(Property::Void, t))
 }
 
 pub fn tj_is_integral(t: &[u64]) -> Answer
     ensures { result ≡ flat (property_answer Property.Integral t.now) }
 {
-    verdict(type_properties::has(Property::Integral, t))
+    Answer::from(type_properties::has(Property::Integral, t))
 }
 
 pub fn tj_is_signed(t: &[u64]) -> Answer
     ensures { result ≡ flat (property_answer Property.Signed t.now) }
 {
-    verdict(type_properties::has(Property::Signed, t))
+    Answer::from(type_properties::has(Property::Signed, t))
 }
 
 pub fn tj_is_bitfield(t: &[u64]) -> Answer
     ensures { result ≡ flat (property_answer Property.Bitfield t.now) }
 {
-    verdict(type_properties::has(Property::Bitfield, t))
+    Answer::from(type_properties::has(Property::Bitfield, t))
 }
 
 pub fn tj_is_slice_pointer(t: &[u64]) -> Answer
     ensures { result ≡ flat (property_answer Property.SlicePointer t.now) }
 {
-    verdict(type_properties::has(Property::SlicePointer, t))
+    Answer::from(type_properties::has(Property::SlicePointer, t))
 }

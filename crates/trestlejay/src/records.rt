@@ -5,7 +5,7 @@ ghost use Rattle.symbol_change.specs.Change as changes;
 ghost use Rattle.symbol_get.specs.Get as gets;
 ghost use Rattle.symbols.specs.Symbols as symbols;
 
-use symbol_columns::Symbol;
+use symbol_columns::{Identifier, Symbol};
 use symbol_operations::{Declared, Offer};
 use symbols::{forward_declare_symbol, get_symbol, poison_symbol, put_symbol};
 use write_answer::Answer;
@@ -22,7 +22,12 @@ pub fn tj_update_symbol(
         symbol.old words.old id authority place offered.now
         result symbol.new words.new }
 {
-    symbol_update_lone::do_update_symbol(symbol, words, id, authority, place, offered)
+    let name = Identifier {
+        id,
+        authority,
+        place,
+    };
+    symbol_update_lone::do_update_symbol(symbol, words, name, offered)
 }
 
 pub fn tj_put_nothing(
@@ -36,17 +41,12 @@ pub fn tj_put_nothing(
         (symbols.change put_nothing id authority place 0 [] table.old store.old)
         result table.new store.new }
 {
-    let none = [0u64; 1];
-    put_symbol(
-        table,
-        store,
-        Offer::Nothing,
+    let name = Identifier {
         id,
         authority,
         place,
-        0,
-        &none[..0],
-    )
+    };
+    put_symbol(table, store, Offer::Nothing, name, 0, &[])
 }
 
 pub fn tj_put_type(
@@ -61,7 +61,12 @@ pub fn tj_put_type(
         (symbols.change (acts act.put_type) id authority place 0 offered.now table.old store.old)
         result table.new store.new }
 {
-    put_symbol(table, store, Offer::Type, id, authority, place, 0, offered)
+    let name = Identifier {
+        id,
+        authority,
+        place,
+    };
+    put_symbol(table, store, Offer::Type, name, 0, offered)
 }
 
 pub fn tj_put_poison(
@@ -76,7 +81,12 @@ pub fn tj_put_poison(
         (symbols.poison id authority place mark table.old store.old)
         result table.new store.new }
 {
-    poison_symbol(table, store, id, authority, place, mark)
+    let name = Identifier {
+        id,
+        authority,
+        place,
+    };
+    poison_symbol(table, store, name, mark)
 }
 
 pub fn tj_forward_declare_type(
@@ -91,16 +101,12 @@ pub fn tj_forward_declare_type(
         (symbols.change (acts act.forward_type) id authority place 0 offered.now table.old store.old)
         result table.new store.new }
 {
-    forward_declare_symbol(
-        table,
-        store,
-        Declared::Type,
+    let name = Identifier {
         id,
         authority,
         place,
-        0,
-        offered,
-    )
+    };
+    forward_declare_symbol(table, store, Declared::Type, name, 0, offered)
 }
 
 pub fn tj_forward_declare_poison(
@@ -115,17 +121,12 @@ pub fn tj_forward_declare_poison(
         (symbols.change (acts act.forward_poison) id authority place mark [] table.old store.old)
         result table.new store.new }
 {
-    let none = [0u64; 1];
-    forward_declare_symbol(
-        table,
-        store,
-        Declared::Poison,
+    let name = Identifier {
         id,
         authority,
         place,
-        mark,
-        &none[..0],
-    )
+    };
+    forward_declare_symbol(table, store, Declared::Poison, name, mark, &[])
 }
 
 pub fn tj_get_symbol(

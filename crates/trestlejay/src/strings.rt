@@ -6,7 +6,7 @@ ghost use Rattle.write_type.specs.Outcome.{answer_in, buffer_in};
 ghost use Rattle.write_answer.specs.Flat as rules;
 
 use type_builders::{for_string_literal, for_string_slice};
-use write_answer::{Answer, checked};
+use write_answer::Answer;
 use write_type::write_type;
 
 // Writes a type whose words are there.
@@ -14,7 +14,7 @@ fn hand_out(t: &[u64], out: &mut [u64]) -> Answer
     ensures answer { result ≡ rules.flat (answer_in out.old (given (layers t.now))) }
     ensures written { out.new ≡ buffer_in out.old (given (layers t.now)) }
 {
-    checked(write_type(out, &t[..0], t))
+    Answer::from(write_type(out, &[], t))
 }
 
 pub fn tj_for_string_literal(length: u64, out: &mut [u64]) -> Answer

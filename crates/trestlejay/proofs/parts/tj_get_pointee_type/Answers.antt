@@ -1,5 +1,0 @@
-use Rattle.trestlejay.proofs.Told.{flat-of}
-use Rattle.trestlejay.proofs.parts.tj_get_pointee_type.Goals as goal
-
-pub returns : goal.returns
-returns c = search flat-of

@@ -1,5 +1,0 @@
-use Rattle.trestlejay.proofs.Told.{flat-of}
-use Rattle.trestlejay.proofs.properties.tj_is_void.Goals as goal
-
-pub returns : goal.returns
-returns c = search flat-of

@@ -1,5 +1,0 @@
-use Rattle.trestlejay.proofs.Told.{flat-of}
-use Rattle.trestlejay.proofs.roles.tj_can_be_struct_member.Goals as goal
-
-pub returns : goal.returns
-returns c = search flat-of
