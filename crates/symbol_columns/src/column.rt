@@ -19,5 +19,6 @@ impl Column {
     pub const WORDS: usize = 6 * Limit::RECORDS;
 }
 
-// The records of a table in six columns of words, one for each field.
+// The records of a table in six columns of words, one for each field, so that ids and states are searched side by side.
+// What `row`, `put_row` and `gather` promise holds them.
 pub type Columns = [u64; Column::WORDS];

@@ -36,7 +36,7 @@ fn look(table: &Table, id: u32, authority: bool) -> Result<Found, Refused>
     }
 }
 
-// The slot or the mark goes where it was lent; without one, what stood there stays.
+// As C has it: the slot or the mark goes where it was lent; without one, what stood there stays.
 fn tell(got: Result<Found, Refused>, found: &mut u64) -> Answer
     ensures answer { result ≡ rules.told (as-coded.of_got got) }
     ensures written { found.new ≡ rules.found_after (as-coded.of_got got) found.old }

@@ -77,6 +77,7 @@ pub fn in_order(table: &Table) -> bool
     }
     let mut noted = [false; 512];
     let mut free = false;
+    // By index: a row is of the columns and of the store.
     for k in 0..count {
         let at = k * Limit::SLOT_WORDS;
         if !stands_after(columns, k, &noted, free, &store[at..at + Limit::SLOT_WORDS]) {
