@@ -17,8 +17,8 @@ use Rattle.walker_run.proofs.steps_taken.walk_among.Kinds.{ps, r}
 use Rattle.walker_run.proofs.steps_taken.walk_among.Reads.{Post}
 use Rattle.walker_run.specs.contracts.walk_lent.walk as walk
 
-pub walk-among-single : (κs : Lfts 4) (a : Dens κs ps) (x y : (res_t r κs).Denot) (s t : AtExit (ended_of 4 ps r) κs) → Post κs a x s → Post κs a y t →
-    (x ≡ y) × (s.1.1.1.1.1.1.0.now ≡ t.1.1.1.1.1.1.0.now)
+pub walk-among-single : (κs : Lfts 6) (a : Dens κs ps) (x y : (res_t r κs).Denot) (s t : AtExit (ended_of 6 ps r) κs) → Post κs a x s → Post κs a y t →
+    (x ≡ y) × (s.1.1.1.1.0.now ≡ t.1.1.1.1.0.now)
 walk-among-single κs a x y s t p q = (p.0 ∙ sym q.0, p.1 ∙ sym q.1)
 
 module _ {M : Type 1} {𝓤 : Ura M} (𝓛 : Logic 𝓤) (mem : Memory → SProp 𝓤) (run : Routine → Fun 𝓤) where

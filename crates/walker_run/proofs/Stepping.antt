@@ -1,21 +1,24 @@
 -- The steps, one after the other.
 -- Assumes nothing.
-use mathlib.Core.Path.{◌≡◌, refl, sym, ap, ◌∙◌}
+use mathlib.Core.Path.{◌≡◌, refl, sym, ◌∙◌}
 use mathlib.Core.Bool.{Bool, true, false, cond, false≢true}
 use mathlib.Core.List.{List, []}
-use Prim.Native.Nat.{ℕ, ◌+◌, ◌/◌, ◌%◌, ◌≤◌, ◌<◌}
+use Prim.Native.Nat.{ℕ, ◌+◌, ◌*◌, ◌≤◌, ◌<◌}
 use native.Mathlib.Omega.{arith}
 use lib.Dec.{eqb, leb}
-use lib.ListN.{length, drop, get_or, drop_of_length-le}
-use borrow.Author.Tests.{eq-eqb}
+use lib.ListN.{length, drop, length-drop}
+use borrow.Author.Tests.{eq-eqb, le-ltb}
 use Rattle.type_layers.specs.Layers.{Layer, layers, outer}
 use Rattle.type_layers.specs.AsCoded.{Whole}
 use Rattle.type_layers.specs.Answer as paper
-use Rattle.type_layers.specs.Answer.{refused, of_checked, next}
+use Rattle.type_layers.specs.Answer.{refused, of_result, next}
+use Rattle.type_numbers.specs.Refusal.{number_of}
+use Rattle.std.specs.Prelude.{Result, Err, Option, Some, None}
+use Rattle.type_layers.proofs.Words.{part, part-is}
 use Rattle.type_checks.specs.Check.{check_of}
-use Rattle.type_checks.proofs.Accepted.{accepted-whole}
-use Rattle.type_layers.specs.declared.answers.Checked.{Checked}
-use Rattle.type_layers.specs.declared.answers.Checked.TheVariants.{Good, Refused}
+use Rattle.type_layers.specs.declared.answers.Refused.{Refused}
+use Rattle.symbol_columns.specs.declared.table.Table.{Table}
+use Rattle.symbol_columns.specs.Table.{records}
 use Rattle.symbol_columns.specs.AsCoded.{read_from}
 use Rattle.symbol_lent.specs.AsCoded.{gathered}
 use Rattle.symbol_order.specs.Order.{in_order}
@@ -23,149 +26,127 @@ use Rattle.symbol_columns.specs.declared.symbol.Symbol.{Symbol}
 use Rattle.symbol_columns.proofs.Reading.{length-read}
 use Rattle.symbol_lent.proofs.Gathering.{swapped}
 use Rattle.symbol_order.proofs.Ordered.{ordered, too_long}
-use Rattle.write_answer.specs.Flat.{not_accepted, flat}
-use Rattle.write_answer.specs.declared.answer.Answer.{Answer}
-use Rattle.plan_steps.specs.Steps.{steps, steps_answer}
-use Rattle.plan_steps.proofs.Words.{steps-none}
-use Rattle.plan_steps.proofs.Passing.{here, at-word, steps-whole}
+use Rattle.plan_steps.specs.Steps.{Step, steps, steps_answer}
+use Rattle.plan_steps.specs.AsCoded.{step_at}
+use Rattle.plan_steps.proofs.Words.{steps-none, steps-more}
 use Rattle.symbol_members.specs.Member.{Stored}
-use Rattle.walker_rule.specs.Walker.{at}
-use Rattle.symbol_members.specs.Members.{of_layers, members}
+use Rattle.symbol_members.specs.Members.{of_layers, member_words, members}
 use Rattle.symbol_members.specs.AsCoded.{member_in}
 use Rattle.walker_rule.specs.AsCoded.{asked_in}
-use Rattle.walker_step.specs.AsCoded.{move_of, seen, onward, desliced, sticks, moved, Current}
+use Rattle.walker_step.specs.AsCoded.{move_of, seen, onward, desliced, moved, Current}
 use Rattle.walker_step.specs.declared.step_move.Move.{Move}
-use Rattle.symbol_members.proofs.Storing.{at_most, member-whole}
+use Rattle.symbol_members.proofs.Storing.{member-whole}
 use Rattle.walker_step.proofs.Acting.{acts, moves-on}
-use Rattle.write_type.specs.Outcome.{delivered, told, over}
+use Rattle.write_type.specs.Outcome.{delivered, told, over, Writes}
 use Rattle.walker_arrival.specs.Arrived.{addressed}
-use Rattle.walker_arrival.proofs.Arriving.{Tells}
 use Rattle.walker_run.specs.Walked.{unless_stuck, walked_from, walk_from, walk_ordered, walk_to}
 
--- what the walker knows before the step that starts at a word
-pub record Reached (columns known ws store : List ℕ) (n : ℕ) (cur : List ℕ) (b : Bool) (word : ℕ) : Type 0 where
-  pub whole : length ws % 4 ≡ 0
-  pub count : word % 4 ≡ 0
-  pub within : word ≤ length ws
-  pub current : Current cur b
-  pub same : walked_from (members (read_from columns 0 n) store) (word / 4) (steps (drop word ws)) (seen cur b)
-      ≡ walked_from (members (read_from columns 0 n) store) 0 (steps ws) (layers known)
+-- a member of at most 128 rows
+at_most : (ws store : List ℕ) (n id : ℕ) → n ≤ 128 → member_in ws n store id ≡ member_words (read_from ws 0 n) store id
+unfolding member_in
+at_most ws store n id h = rw (le-ltb 128 n h)
 
-pub start : (columns known ws store : List ℕ) (n : ℕ) → Whole known → length ws % 4 ≡ 0 → Reached columns known ws store n known false 0
-unfolding seen
-start columns known ws store n w m =
-    record { whole = m; count = refl; within = omega arith; current = (w, λ f. absurd (false≢true f)); same = refl }
-
--- the member that a step asks for
-module _ (columns store : List ℕ) (n : ℕ) (o : in_order (read_from columns 0 n) store ≡ true) (s id : ℕ) where
-  few : n ≤ 128
-  few = rw (length-read columns 0 n) at (ordered (read_from columns 0 n) store o).few
-
-  asked_is : (m : List ℕ) → m ≡ asked_in columns n store s id → s ≡ 1 → members (read_from columns 0 n) store id ≡ of_layers (layers m)
-  unfolding members asked_in
-  asked_is m e f = rw (e, eq-eqb s 1 f, at_most columns store n id few)
-
-  asked-whole : (m : List ℕ) → m ≡ asked_in columns n store s id → Whole m
-  unfolding asked_in
-  asked-whole m e = rw e (by_kind (eqb s 1))
-    where
-      by_kind : (f : Bool) → Whole (cond f (member_in columns n store id) [])
-      by_kind true = rw (at_most columns store n id few) (member-whole (read_from columns 0 n) store id o)
-      by_kind false = record { whole = refl; few = omega arith }
-
--- one step: k is the outer kind, l the kind inside, m the member's words, x the move
-module _ (columns known ws store : List ℕ) (n : ℕ) (cur : List ℕ) (b : Bool) (word : ℕ)
-    (o : in_order (read_from columns 0 n) store ≡ true) (r : Reached columns known ws store n cur b word) (h : word < length ws)
-    (m i : List ℕ) (k l : ℕ) (x : Move) (stops : Bool)
-    (e : m ≡ asked_in columns n store (get_or ws word 0) (get_or ws (word + 1) 0)) (f : k ≡ outer (seen cur b)) (g : i ≡ drop 3 cur)
-    (j : l ≡ outer (layers i)) (q : x ≡ move_of (get_or ws word 0) (get_or ws (word + 2) 0) k l (leb 3 (length m))) (z : stops ≡ sticks x) where
+-- what the walker knows before a step: the words from there on are left
+module _ (table : Table) where
   abbrev stored : ℕ → Stored
-  stored = members (read_from columns 0 n) store
+  stored = members (records table) table.store.now
 
-  is_move : x ≡ move_of (get_or ws word 0) (get_or ws (word + 2) 0) (outer (seen cur b)) (outer (layers (drop 3 cur))) (leb 3 (length m))
-  is_move = q ∙ rw (f, j, g)
+  abbrev asked : Step → List ℕ
+  asked a = asked_in table.columns.now table.count table.store.now a.kind a.handle
 
-  stepped : unless_stuck (moved x cur m) (word / 4) (walked_from stored (word / 4 + 1) (steps (drop (word + 4) ws)))
-      ≡ walked_from stored 0 (steps ws) (layers known)
-  unfolding walked_from
-  stepped =
-      let act-is = acts cur m b stored (here ws word) (asked_is columns store n o (get_or ws word 0) (get_or ws (word + 1) 0) m e) in
-      rw (is_move, ← act-is) (rw (at-word ws word (omega (arith, r.whole, r.count))) at r.same)
+  pub record Reached (known ws cur : List ℕ) (b : Bool) (rest : List ℕ) (place : ℕ) : Type 0 where
+    pub count : 4 * place + length rest ≡ length ws
+    pub current : Current cur b
+    pub same : walked_from stored place (steps rest) (seen cur b) ≡ walked_from stored 0 (steps ws) (layers known)
 
-  pub sticks-here : stops ≡ true → refused 8 (word / 4) ≡ walked_from stored 0 (steps ws) (layers known)
-  unfolding moved
-  sticks-here t = rw (← z, t) at stepped
+  pub start : (known ws : List ℕ) → Whole known → Reached known ws known false ws 0
+  unfolding seen
+  start known ws w = record { count = omega arith; current = (w, λ f. absurd (false≢true f)); same = refl }
 
-  pub goes_on : (next : List ℕ) (d : Bool) → stops ≡ false → next ≡ onward x cur m → d ≡ desliced x → Reached columns known ws store n next d (word + 4)
-  unfolding moved
-  goes_on next d t u v =
-      let p : (word + 4) / 4 ≡ word / 4 + 1 = omega arith in
-      record {
-        whole = r.whole;
-        count = omega (arith, r.count);
-        within = omega (arith, r.whole, r.count);
-        current =
-            rw (u, v)
-            (moves-on cur m b (get_or ws word 0) (get_or ws (word + 2) 0) (outer (layers (drop 3 cur))) (leb 3 (length m)) x is_move
-            r.current.0 (asked-whole columns store n o (get_or ws word 0) (get_or ws (word + 1) 0) m e));
-        same = rw (p, u, v) (rw (← z, t) at stepped);
-      }
+  module _ (o : in_order (records table) table.store.now ≡ true) where
+    few : table.count ≤ 128
+    few = rw (length-read table.columns.now 0 table.count) at (ordered (records table) table.store.now o).few
 
--- what is told in the end
-module _ (columns known ws store : List ℕ) (n : ℕ) (address : Bool) (out : List ℕ) (a : Answer) where
-  pub tells-stuck : (p : ℕ) → refused 8 p ≡ walked_from (members (read_from columns 0 n) store) 0 (steps ws) (layers known) →
-      a ≡ not_accepted 8 p → Tells (walk_from known ws address (read_from columns 0 n) store) out a out
-  unfolding walk_from delivered told over flat
-  tells-stuck p e f = rw (← e) (f, refl)
+    -- the member that a step asks for
+    asked_is : (a : Step) (m : List ℕ) → m ≡ asked a → a.kind ≡ 1 → stored a.handle ≡ of_layers (layers m)
+    unfolding members asked_in
+    asked_is a m e f = rw (e, eq-eqb a.kind 1 f, at_most table.columns.now table.store.now table.count a.handle few)
 
-  pub tells-arrived : (cur out' : List ℕ) (b : Bool) (word : ℕ) → Reached columns known ws store n cur b word → length ws ≤ word →
-      Tells (paper.given (addressed address (seen cur b))) out a out' → Tells (walk_from known ws address (read_from columns 0 n) store) out a out'
-  unfolding walk_from walked_from
-  tells-arrived cur out' b word r h t =
-      rw (← r.same, drop_of_length-le ws h, steps-none [] (omega arith)) t
+    asked-whole : (a : Step) (m : List ℕ) → m ≡ asked a → Whole m
+    unfolding asked_in
+    asked-whole a m e = rw e (by_kind (eqb a.kind 1))
+      where
+        by_kind : (f : Bool) → Whole (cond f (member_in table.columns.now table.count table.store.now a.handle) [])
+        by_kind true = rw (at_most table.columns.now table.store.now table.count a.handle few) (member-whole (records table) table.store.now a.handle o)
+        by_kind false = record { whole = refl; few = omega arith }
 
--- the same answer is told
-module _ (out : List ℕ) (a : Answer) (v w : paper.Answer (List Layer)) where
-  pub tells-same : (out' : List ℕ) → Tells v out a out' → v ≡ w → Tells w out a out'
-  tells-same out' t e = rw (← e) t
+    -- one step: k is the outer kind, l the kind inside, m the member's words, x the move
+    module _ (known ws cur : List ℕ) (b : Bool) (rest : List ℕ) (place : ℕ) (r : Reached known ws cur b rest place) (h : 4 ≤ length rest)
+        (a : Step) (is : a ≡ step_at rest) (m i : List ℕ) (k l : ℕ) (x : Option Move)
+        (e : m ≡ asked a) (f : k ≡ outer (seen cur b)) (g : i ≡ drop 3 cur) (j : l ≡ outer (layers i)) (q : x ≡ move_of a.kind a.mark k l (leb 3 (length m))) where
+      is_move : x ≡ move_of a.kind a.mark (outer (seen cur b)) (outer (layers (drop 3 cur))) (leb 3 (length m))
+      is_move = q ∙ rw (f, j, g)
 
-pub tells-refused : (out : List ℕ) (a : Answer) (w : paper.Answer (List Layer)) (n p : ℕ) → a ≡ not_accepted n p → refused n p ≡ w → Tells w out a out
-unfolding delivered told over flat
-tells-refused out a w n p q e = rw (← e) (q, refl)
+      stepped : unless_stuck (moved x cur m) place (walked_from stored (place + 1) (steps (drop 4 rest))) ≡ walked_from stored 0 (steps ws) (layers known)
+      unfolding walked_from
+      stepped = rw (is_move, ← acts cur m b stored a (asked_is a m e)) (rw (steps-more rest h, ← is) at r.same)
+
+      pub sticks-here : x ≡ None → refused 8 place ≡ walked_from stored 0 (steps ws) (layers known)
+      unfolding moved
+      sticks-here t = rw t at stepped
+
+      pub goes_on : (v : Move) → x ≡ Some v → (next : List ℕ) (d : Bool) (rest' : List ℕ) → next ≡ onward v cur m → d ≡ desliced v → rest' ≡ part rest 4 →
+          Reached known ws next d rest' (place + 1)
+      unfolding moved
+      goes_on v t next d rest' u w z =
+          record {
+            count = rw (z, part-is rest 4, length-drop) (omega (arith, r.count));
+            current =
+                rw (u, w)
+                (moves-on cur m b a.kind a.mark (outer (layers (drop 3 cur))) (leb 3 (length m)) v (sym t ∙ is_move) r.current.0 (asked-whole a m e));
+            same = rw (z, part-is rest 4, u, w) (rw t at stepped);
+          }
+
+  -- what is written in the end
+  module _ (known ws : List ℕ) (address : Bool) (out : List ℕ) where
+    pub writes-stuck : (x : Refused) → refused (number_of x.refusal) x.place ≡ walked_from stored 0 (steps ws) (layers known) →
+        Writes (walk_from known ws address (records table) table.store.now) (Err x) out out
+    unfolding walk_from delivered told over
+    writes-stuck x e = rw (← e) (refl, refl)
+
+    pub writes-arrived : (cur out' rest : List ℕ) (b : Bool) (place : ℕ) (a : Result ℕ Refused) → Reached known ws cur b rest place → length rest < 4 →
+        Writes (paper.given (addressed address (seen cur b))) a out out' → Writes (walk_from known ws address (records table) table.store.now) a out out'
+    unfolding walk_from walked_from
+    writes-arrived cur out' rest b place a r h t = rw (← r.same, steps-none rest h) t
+
+-- the same is written
+module _ (out : List ℕ) (v w : paper.Answer (List Layer)) where
+  pub writes-same : (a : Result ℕ Refused) (out' : List ℕ) → Writes v a out out' → v ≡ w → Writes w a out out'
+  writes-same a out' t e = rw (← e) t
+
+pub writes-refused : (out : List ℕ) (w : paper.Answer (List Layer)) (r : Result ℕ Refused) (x : Refused) → r ≡ Err x → refused (number_of x.refusal) x.place ≡ w → Writes w r out out
+unfolding delivered told over
+writes-refused out w r x q e = rw (← e, q) (refl, refl)
 
 -- by what the checks said
 module _ (known ws store : List ℕ) (address : Bool) (table : List Symbol) where
-  module _ (f : Bool) (e : f ≡ in_order table store) where
-    pub not-ordered : f ≡ false → refused 12 0 ≡ walk_ordered known ws address table store
-    unfolding walk_ordered
-    not-ordered t = rw (← e, t)
+  pub no-type : (e : Refused) → refused (number_of e.refusal) e.place ≡ check_of known → refused (number_of e.refusal) e.place ≡ walk_to known ws address table store
+  unfolding walk_to
+  no-type e q = rw (← q)
 
-    pub is-ordered : f ≡ true → walk_from known ws address table store ≡ walk_ordered known ws address table store
-    unfolding walk_ordered
-    is-ordered t = rw (← e, t)
-
-  module _ (x : Checked) (e : of_checked x ≡ check_of known) where
-    pub no-type : (n p : ℕ) → x ≡ Refused n p → refused n p ≡ walk_to known ws address table store
+  module _ (i : ℕ) (t : paper.given i ≡ check_of known) where
+    pub no_steps : (e : Refused) → refused (number_of e.refusal) e.place ≡ steps_answer 128 ws → refused (number_of e.refusal) e.place ≡ walk_to known ws address table store
     unfolding walk_to
-    no-type n p t = rw (← e, t)
+    no_steps e q = rw (← t, ← q)
 
-    module _ (i : ℕ) (t : x ≡ Good i) (y : Checked) (f : of_checked y ≡ steps_answer 128 ws) where
-      pub no_steps : (n p : ℕ) → y ≡ Refused n p → refused n p ≡ walk_to known ws address table store
-      unfolding walk_to
-      no_steps n p u = rw (← e, t, ← f, u)
+    module _ (j : ℕ) (u : paper.given j ≡ steps_answer 128 ws) (f : Bool) (o : f ≡ in_order table store) where
+      pub not-ordered : f ≡ false → refused 12 0 ≡ walk_to known ws address table store
+      unfolding walk_to walk_ordered
+      not-ordered e = rw (← t, ← u, ← o, e)
 
-      pub checked : (j : ℕ) → y ≡ Good j → walk_ordered known ws address table store ≡ walk_to known ws address table store
-      unfolding walk_to
-      checked j u = rw (← e, t, ← f, u)
-
--- words that pass
-module _ (x : Checked) (ws : List ℕ) (i : ℕ) (t : x ≡ Good i) where
-  module _ (e : of_checked x ≡ check_of ws) where
-    pub type-whole : Whole ws
-    type-whole = accepted-whole ws i (sym e ∙ ap of_checked t)
-
-  pub steps-fours : (most : ℕ) → of_checked x ≡ steps_answer most ws → length ws % 4 ≡ 0
-  steps-fours most e = steps-whole most ws i (sym e ∙ ap of_checked t)
+      pub is-ordered : f ≡ true → walk_from known ws address table store ≡ walk_to known ws address table store
+      unfolding walk_to walk_ordered
+      is-ordered e = rw (← t, ← u, ← o, e)
 
 -- the walk with the columns of a table is the walk with the table
 pub walk_same : (known ws store : List ℕ) (address : Bool) (table : List Symbol) →

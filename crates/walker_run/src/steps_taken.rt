@@ -1,95 +1,87 @@
-ghost use Rattle.std.specs.Prelude.{◌≡◌, true, ◌%◌, length};
-ghost use Rattle.symbol_columns.specs.AsCoded.{read_from};
-ghost use Rattle.symbol_order.specs.Order.{in_order};
+ghost use Rattle.std.specs.Prelude.{◌≡◌, true};
 ghost use Rattle.type_layers.specs.AsCoded.{Whole};
+ghost use Rattle.symbol_columns.specs.Table.{records};
+ghost use Rattle.symbol_order.specs.Order.{in_order};
+ghost use Rattle.write_type.specs.Outcome.{Writes};
 ghost use Rattle.walker_run.specs.Walked as rules;
 ghost use Rattle.walker_arrival.specs.Arrived.{HandsOut};
 
-use plan_steps::check_steps;
-use symbol_columns::Columns;
+use plan_steps::{Step, check_steps};
+use symbol_columns::Table;
 use symbol_order::in_order;
 use type_first_refusal::check_type;
-use type_layers::{Checked, inner, outer};
+use type_layers::{Refused, inner, outer};
 use type_numbers::{Limit, Refusal};
 use walker_arrival::arrive;
 use walker_rule::asked_member;
-use walker_step::{go, is_desliced, is_stuck, kind_of, move_of};
-use write_answer::{Answer, refused};
+use walker_step::{go, is_desliced, kind_of, move_of};
+use write_answer::Answer;
 
 // Takes the steps, one after the other, and arrives.
-fn take_steps<'a>(
-    columns: &Columns,
-    n: usize,
-    known: &'a [u64],
+fn take_steps(
+    table: &Table<'_, '_>,
+    known: &[u64],
     steps: &[u64],
     address: bool,
-    store: &'a [u64],
     out: &mut [u64],
-) -> Answer
-    requires { Whole known.now × ((length steps.now % 4 ≡ 0) × (in_order (read_from columns.now 0 n) store.now ≡ true)) }
-    ensures { HandsOut
-        (rules.walk_from known.now steps.now address (read_from columns.now 0 n) store.now)
+) -> Result<u64, Refused>
+    requires { Whole known.now × (in_order (records table.now) table.now.store.now ≡ true) }
+    ensures { Writes
+        (rules.walk_from known.now steps.now address (records table.now) table.now.store.now)
         result out.old out.new }
 {
     let mut cur = known;
     let mut desliced = false;
-    let mut at = 0;
-    while at < steps.len() {
-        let stored = asked_member(columns, n, store, steps[at], steps[at + 1]);
+    let mut rest = steps;
+    let mut place = 0;
+    while let [kind, handle, mark, number, left @ ..] = rest {
+        let step = Step::from([*kind, *handle, *mark, *number]);
+        let stored = asked_member(table, step);
         let k = kind_of(cur, desliced);
         let l = outer(inner(cur));
-        let m = move_of(steps[at], steps[at + 2], k, l, stored.len() >= 3);
-        if is_stuck(m) {
-            return refused(Refusal::NO_STEP_FITS, (at / 4) as u64);
-        }
-        let next = go(m, cur, stored);
-        cur = next;
+        let Some(m) = move_of(step, k, l, stored.len() >= 3) else {
+            let refusal = Refusal::NoStepFits;
+            return Err(Refused { refusal, place });
+        };
+        cur = go(m, cur, stored);
         desliced = is_desliced(m);
-        at += 4;
+        rest = left;
+        place += 1;
     }
     arrive(out, cur, desliced, address)
 }
 
-// The walk with a table in columns, once the type and the steps are checked.
-fn walk_ordered<'a>(
-    columns: &Columns,
-    n: usize,
-    known: &'a [u64],
+// The walk of any words, with any table in columns.
+fn walk_checked(
+    table: &Table<'_, '_>,
+    known: &[u64],
     steps: &[u64],
     address: bool,
-    store: &'a [u64],
     out: &mut [u64],
-) -> Answer
-    requires { Whole known.now × (length steps.now % 4 ≡ 0) }
-    ensures { HandsOut
-        (rules.walk_ordered known.now steps.now address (read_from columns.now 0 n) store.now)
+) -> Result<u64, Refused>
+    ensures { Writes
+        (rules.walk_to known.now steps.now address (records table.now) table.now.store.now)
         result out.old out.new }
 {
-    if in_order(columns, n, store) {
-        return take_steps(columns, n, known, steps, address, store, out);
+    check_type(known)?;
+    check_steps(steps, Limit::WALKED)?;
+    if !in_order(table) {
+        return Err(Refusal::TableNotInOrder.into());
     }
-    refused(Refusal::TABLE_NOT_IN_ORDER, 0)
+    take_steps(table, known, steps, address, out)
 }
 
 // The walk with a table in columns.
-pub fn walk_among<'a>(
-    columns: &Columns,
-    n: usize,
-    known: &'a [u64],
+pub fn walk_among(
+    table: &Table<'_, '_>,
+    known: &[u64],
     steps: &[u64],
     address: bool,
-    store: &'a [u64],
     out: &mut [u64],
 ) -> Answer
     ensures { HandsOut
-        (rules.walk_to known.now steps.now address (read_from columns.now 0 n) store.now)
+        (rules.walk_to known.now steps.now address (records table.now) table.now.store.now)
         result out.old out.new }
 {
-    match check_type(known) {
-        Checked::Refused { number, place } => refused(number, place),
-        Checked::Good(_) => match check_steps(steps, Limit::WALKED) {
-            Checked::Refused { number, place } => refused(number, place),
-            Checked::Good(_) => walk_ordered(columns, n, known, steps, address, store, out),
-        },
-    }
+    Answer::from(walk_checked(table, known, steps, address, out))
 }

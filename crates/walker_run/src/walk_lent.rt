@@ -2,7 +2,7 @@ ghost use Rattle.walker_run.specs.Walked as rules;
 ghost use Rattle.walker_arrival.specs.Arrived.{HandsOut};
 
 use crate::steps_taken::walk_among;
-use symbol_columns::{Column, Symbol};
+use symbol_columns::{Column, Symbol, Table};
 use symbol_lent::gather;
 use write_answer::Answer;
 
@@ -21,5 +21,10 @@ pub fn walk<'a>(
 {
     let mut columns = [0u64; Column::WORDS];
     gather(table, &mut columns);
-    walk_among(&columns, table.len(), known, steps, address, store, out)
+    let table = Table {
+        columns: &columns,
+        count: table.len(),
+        store,
+    };
+    walk_among(&table, known, steps, address, out)
 }

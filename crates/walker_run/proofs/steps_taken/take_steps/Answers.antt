@@ -1,17 +1,20 @@
-use Prim.Native.Nat.{◌-◌}
-use Rattle.walker_run.proofs.Stepping.{start, sticks-here, goes_on, tells-stuck, tells-arrived}
+use Rattle.std.proofs.Common.{refl}
+use Rattle.type_numbers.specs.declared.refusal.Refusal.TheVariants.{NoStepFits}
+use Rattle.walker_run.proofs.Stepping.{start, sticks-here, goes_on, writes-stuck, writes-arrived}
 use Rattle.walker_run.proofs.steps_taken.take_steps.Goals as goal
 
-pub loop-at-init : goal.loop-at-init
-loop-at-init c = start _ _ _ _ _ c.requires.0 c.requires.1.0
+pub loop-rest-init : goal.loop-rest-init
+loop-rest-init c = start _ _ _ c.requires.0
 
-pub returns-then-is_stuck : goal.returns-then-is_stuck
-returns-then-is_stuck c =
-    tells-stuck _ _ _ _ _ _ _ _ _ (sticks-here _ _ _ _ _ _ _ _ c.requires.1.1 c.loop-at.invariant c.loop-at-test.true _ _ _ _ _ _ c.asked_member-stored.ensures c.kind_of-k.ensures c.inner.ensures c.outer-l.ensures c.move_of-m.ensures c.is_stuck.ensures c.if-is_stuck.true) c.refused.ensures
+pub returns-in_default-move_of : goal.returns-in_default-move_of
+returns-in_default-move_of c =
+    writes-stuck c.args.table.now c.args.known.now c.args.steps.now c.args.address c.args.out.now (record { refusal = NoStepFits; place = c.loop-rest.place })
+    (sticks-here c.args.table.now c.requires.1 _ _ _ _ _ _ c.loop-rest.invariant c.in-len4-up.len_at_least _ c.from-step.ensures _ _ _ _ _ c.asked_member-stored.ensures c.kind_of-k.ensures c.inner.ensures c.outer-l.ensures c.move_of.ensures c.in_default-move_of.is)
 
-pub loop-at-preserved : goal.loop-at-preserved
-loop-at-preserved c =
-    goes_on _ _ _ _ _ _ _ _ c.requires.1.1 c.loop-at.invariant c.loop-at-test.true _ _ _ _ _ _ c.asked_member-stored.ensures c.kind_of-k.ensures c.inner.ensures c.outer-l.ensures c.move_of-m.ensures c.is_stuck.ensures _ _ c.if-is_stuck.false c.go-next.ensures c.is_desliced-desliced.ensures
+pub loop-rest-preserved : goal.loop-rest-preserved
+loop-rest-preserved c =
+    goes_on c.args.table.now c.requires.1 _ _ _ _ _ _ c.loop-rest.invariant c.in-len4-up.len_at_least _ c.from-step.ensures _ _ _ _ _ c.asked_member-stored.ensures c.kind_of-k.ensures c.inner.ensures c.outer-l.ensures c.move_of.ensures _ c.in-Some.is _ _ _ c.go-cur.ensures c.is_desliced-desliced.ensures refl
 
 pub returns : goal.returns
-returns c = tells-arrived _ _ _ _ _ _ c.args.out.now _ _ _ _ _ c.loop-at.invariant c.loop-at-test.false c.arrive.ensures
+returns c =
+    writes-arrived c.args.table.now c.args.known.now c.args.steps.now c.args.address c.args.out.now _ _ _ _ _ _ c.loop-rest.invariant c.in_default.len_below c.arrive.ensures
