@@ -42,7 +42,7 @@ use Rattle.walker_arrival.specs.Arrived.{addressed}
 use Rattle.walker_run.specs.Walked.{unless_stuck, walked_from, walk_from, walk_ordered, walk_to}
 
 -- a member of at most 128 rows
-at_most : (ws store : List ℕ) (n id : ℕ) → n ≤ 128 → member_in ws n store id ≡ member_words (read_from ws 0 n) store id
+pub at_most : (ws store : List ℕ) (n id : ℕ) → n ≤ 128 → member_in ws n store id ≡ member_words (read_from ws 0 n) store id
 unfolding member_in
 at_most ws store n id h = rw (le-ltb 128 n h)
 
