@@ -18,7 +18,7 @@ use Rattle.type_layers.proofs.Given.{not-given, given_is}
 use Rattle.plan_turn.proofs.Cases.{cases}
 use Rattle.symbol_members.specs.Member.{Stored, typed, absent}
 use Rattle.walker_rule.specs.Walker.{at, act, walker}
-use Rattle.plan_rounds.proofs.Going.{one_in, two_in}
+use Rattle.plan_rounds.proofs.Reading.{one_in, two_in}
 use Rattle.plan_rounds.specs.Rounds.{steps_of, taken_by, member_type, goes, turn_at}
 use Rattle.planner.specs.Demand.{asked, unmarked, rounds}
 

@@ -8,8 +8,8 @@ pub mod Arrives
 pub mod Asking
 pub mod Answered
 pub mod Carried
-pub mod Single
 pub mod Table
 pub mod Surprises
 pub mod Excluded
 pub mod Accepts
+pub mod Single

@@ -21,7 +21,7 @@ use Rattle.symbol_members.specs.Member.{Stored}
 use Rattle.walker_rule.specs.Walker.{Where, at, stuck, act, then, walker}
 use Rattle.plan_rounds.specs.Rounds.{Rounds, ended, stopped, steps_of, taken_by, goes, turn_at, prepend, onward, in_rounds}
 use Rattle.plan_turn.specs.Turn.{Turn, Stuck, Auto, Element, Desliced, Member}
-use Rattle.plan_rounds.proofs.Turning.{took-few}
+use Rattle.plan_rounds.proofs.Going.{took-few}
 use Rattle.planner.specs.Demand.{asked, unmarked, rounds}
 use Rattle.planner.proofs.Leads.{leads, takes, turns-once, steps-good}
 

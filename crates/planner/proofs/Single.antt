@@ -17,8 +17,8 @@ use Rattle.planner.proofs.plan_checks.plan_among.Kinds.{ps, r}
 use Rattle.planner.proofs.plan_checks.plan_among.Reads.{Post}
 use Rattle.planner.specs.contracts.autoderef_lent.autoderef as autoderef
 
-pub plan-among-single : (κs : Lfts 5) (a : Dens κs ps) (x y : (res_t r κs).Denot) (s t : AtExit (ended_of 5 ps r) κs) → Post κs a x s → Post κs a y t →
-    (x ≡ y) × (s.1.1.1.1.1.1.1.1.0.now ≡ t.1.1.1.1.1.1.1.1.0.now) × (s.1.1.1.1.1.1.1.1.1.0.now ≡ t.1.1.1.1.1.1.1.1.1.0.now)
+pub plan-among-single : (κs : Lfts 7) (a : Dens κs ps) (x y : (res_t r κs).Denot) (s t : AtExit (ended_of 7 ps r) κs) → Post κs a x s → Post κs a y t →
+    (x ≡ y) × (s.1.1.0.now ≡ t.1.1.0.now) × (s.1.1.1.0.now ≡ t.1.1.1.0.now)
 plan-among-single κs a x y s t p q = (p.0 ∙ sym q.0, p.1.0 ∙ sym q.1.0, p.1.1 ∙ sym q.1.1)
 
 module _ {M : Type 1} {𝓤 : Ura M} (𝓛 : Logic 𝓤) (mem : Memory → SProp 𝓤) (run : Routine → Fun 𝓤) where

@@ -22,7 +22,7 @@ use Rattle.plan_turn.proofs.Cases.{cases}
 use Rattle.symbol_members.specs.Member.{Stored, typed, absent}
 use Rattle.plan_rounds.specs.Rounds.{ended, goes, turn_at, member_type, in_rounds}
 use Rattle.planner.proofs.Leads.{reached}
-use Rattle.plan_rounds.proofs.Going.{one_in, two_in}
+use Rattle.plan_rounds.proofs.Reading.{one_in, two_in}
 use Rattle.planner.proofs.Rounds.{every-rounds}
 
 -- a type of good layers, at most 16

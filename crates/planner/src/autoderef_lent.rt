@@ -3,7 +3,8 @@ ghost use Rattle.planner.specs.Plans as answers;
 
 use crate::plan_checks::plan_among;
 use plan_report::Report;
-use symbol_columns::{Column, Symbol};
+use plan_rounds::Question;
+use symbol_columns::{Column, Symbol, Table};
 use symbol_lent::gather;
 
 // Plans the asked steps from the known type, and writes the plan's steps and its reported type.
@@ -25,16 +26,17 @@ pub fn autoderef<'a>(
 {
     let mut columns = [0u64; Column::WORDS];
     gather(table, &mut columns);
-    plan_among(
-        &columns,
-        table.len(),
+    let table = Table {
+        columns: &columns,
+        count: table.len(),
         store,
+    };
+    let question = Question {
         known,
         asked,
         target,
         level,
         rounds,
-        steps,
-        ty,
-    )
+    };
+    plan_among(&table, &question, steps, ty)
 }

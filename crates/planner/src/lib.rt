@@ -7,3 +7,4 @@ mod plan_checks;
 pub use autoderef_lent::autoderef;
 pub use plan_checks::plan_among;
 pub use plan_report::Report;
+pub use plan_rounds::Question;
