@@ -1,7 +1,7 @@
 -- What becomes of a type, in the words that are written.
 -- Assumes nothing.
 use mathlib.Core.Path.{◌≡◌}
-use mathlib.Core.Bool.{cond, ◌&&◌, ◌||◌, Bool, true, false}
+use mathlib.Core.Bool.{Bool, true, false, cond, ◌&&◌, ◌||◌}
 use mathlib.Core.List.{List, [], ◌++◌}
 use Prim.Native.Nat.{ℕ}
 use lib.Dec.{eqb}
