@@ -1,12 +1,12 @@
 -- What a round reads of words, and where it goes on.
 -- Assumes nothing.
-use mathlib.Core.Path.{◌≡◌, refl, sym, ap, ◌∙◌}
-use mathlib.Core.Bool.{Bool, true, false}
+use mathlib.Core.Path.{◌≡◌, refl}
+use mathlib.Core.Bool.{true, false}
 use mathlib.Core.List.{List, [], ◌∷◌}
 use Prim.Native.Nat.{ℕ, ◌≤◌, ◌<◌}
 use lib.ListN.{length, drop}
 use Rattle.type_numbers.specs.Refusal as refusal
-use Rattle.type_layers.specs.Layers.{Layer, layers, inside, inner_words}
+use Rattle.type_layers.specs.Layers.{Layer, layers, inside}
 use Rattle.type_layers.specs.Answer.{given, refused}
 use Rattle.type_layers.proofs.Words.{none, more, inner-layers, inner-whole}
 use Rattle.type_wellformed.specs.WellFormed.{well_formed}

@@ -51,7 +51,8 @@ fn go_along<'a>(
     Ok((cur, taken))
 }
 
-// The plan of a question: its rounds, and their settling.
+// The plan of a question: its rounds, and their settling. The two outputs stay apart, also in the crates above: one value
+// with two `&mut` is no plainer in a clause.
 pub fn plan_in_rounds(
     table: &Table<'_, '_>,
     question: &Question<'_>,

@@ -7,7 +7,8 @@ use plan_rounds::Question;
 use symbol_columns::{Column, Symbol, Table};
 use symbol_lent::gather;
 
-// Plans the asked steps from the known type, and writes the plan's steps and its reported type.
+// Plans the asked steps from the known type, and writes the plan's steps and its reported type. The parameters are those of
+// the C face.
 pub fn autoderef<'a>(
     known: &'a [u64],
     asked: &[u64],

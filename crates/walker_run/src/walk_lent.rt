@@ -7,6 +7,7 @@ use symbol_lent::gather;
 use write_answer::Answer;
 
 // Takes the steps from the known type, then the address where it is asked for, and writes the type that is reached.
+// The parameters are those of the C face.
 pub fn walk<'a>(
     known: &'a [u64],
     steps: &[u64],
