@@ -7,7 +7,7 @@ mod members;
 mod questions;
 mod report;
 mod sweeps;
-mod words;
+mod types;
 
 use std::io;
 

@@ -1,171 +1,76 @@
-ghost use Rattle.std.specs.Prelude.{◌≡◌, length};
-
-use crate::asking::{Numbers, ask, line, ordinary};
-use crate::members::MEMBERS;
-use crate::questions::type_at;
-use crate::report::{given, text};
-use crate::words::{Words, first};
+use crate::asking::{Given, USUAL, ask, line};
+use crate::types::{INT32, Layer, POINTER, TYPES};
 use std::io;
-use type_numbers::{Kind, StepKind};
+use type_numbers::StepKind;
 
 // The most rounds, and two more, of a plan that is led back to pointers.
 pub(crate) fn rounds(rt: &impl Print) -> io::Result<()> {
-    text(rt, b"rounds\n")?;
-    let mut n = 0;
-    while n < 67 {
-        line(rt, 18, 5, 0, ordinary(0, n))?;
-        n += 1;
+    println!(rt; "rounds")?;
+    for rounds in 0..67 {
+        line(rt, 18, 5, 0, Given { rounds, ..USUAL })?;
     }
     Ok(())
 }
 
-// A member, 34 times.
-fn members(id: u64) -> [u64; 136]
-    ensures { 136 ≡ length result }
-{
-    let mut ws = [0u64; 136];
-    let mut i = 0;
-    while i < 34 {
-        ws[4 * i] = StepKind::MEMBER;
-        ws[4 * i + 1] = id;
-        i += 1;
-    }
-    ws
-}
-
-// So many words of it, from a type and back to it.
-fn asked(rt: &impl Print, i: usize, id: u64, words: usize, rounds: u64) -> io::Result<()> {
-    let t = type_at(i);
-    let ws = t.words;
-    let q = members(id);
-    given(rt, words as u64)?;
-    text(rt, b" words of members,")?;
-    given(rt, rounds)?;
-    text(rt, b" rounds:")?;
-    let n = Numbers {
-        records: MEMBERS,
-        known: t.count,
-        target: t.count,
-        level: 0,
-        rounds,
-        room: 576,
-        wide: 48,
-    };
-    ask(rt, n, &ws, first(&q, words), &ws)
+// Members, from a type and back to it.
+fn asked(rt: &impl Print, t: &[Layer], members: &[[u64; 4]], rounds: u64) -> io::Result<()> {
+    let ty = t.as_flattened();
+    let steps = members.as_flattened();
+    print!(rt; " {} words of members, {rounds} rounds:", steps.len())?;
+    ask(rt, Given { rounds, ..USUAL }, ty, steps, ty)
 }
 
 // The most asked steps, one less and one more; and a plan that the most rounds cut off.
 pub(crate) fn counts(rt: &impl Print) -> io::Result<()> {
-    text(rt, b"asked\n")?;
-    asked(rt, 2, 7, 124, 64)?;
-    asked(rt, 2, 7, 128, 64)?;
-    asked(rt, 2, 7, 132, 64)?;
-    asked(rt, 18, 2, 128, 62)?;
-    asked(rt, 18, 2, 128, 63)?;
-    asked(rt, 18, 2, 128, 64)?;
-    asked(rt, 18, 2, 128, 65)
-}
-
-fn wide_each(rt: &impl Print, room: usize) -> io::Result<()> {
-    let mut wide = 0;
-    while wide < 5 {
-        given(rt, room as u64)?;
-        given(rt, wide as u64)?;
-        text(rt, b" words lent, ")?;
-        let n = Numbers {
-            records: MEMBERS,
-            known: 9,
-            target: 3,
-            level: 0,
-            rounds: 64,
-            room,
-            wide,
-        };
-        line(rt, 23, 1, 0, n)?;
-        wide += 1;
+    println!(rt; "asked")?;
+    let itself = [StepKind::MEMBER, 7, 0, 0];
+    asked(rt, TYPES[2], &[itself; 31], 64)?;
+    asked(rt, TYPES[2], &[itself; 32], 64)?;
+    asked(rt, TYPES[2], &[itself; 33], 64)?;
+    let pointer = [StepKind::MEMBER, 2, 0, 0];
+    for rounds in 62..66 {
+        asked(rt, TYPES[18], &[pointer; 32], rounds)?;
     }
     Ok(())
 }
 
 // Two steps and one layer, with less and less room.
 pub(crate) fn rooms(rt: &impl Print) -> io::Result<()> {
-    text(rt, b"room\n")?;
-    let mut room = 0;
-    while room < 10 {
-        wide_each(rt, room)?;
-        room += 1;
+    println!(rt; "room")?;
+    for room in 0..10 {
+        for wide in 0..5 {
+            print!(rt; " {room} {wide} words lent, ")?;
+            let g = Given {
+                room,
+                wide,
+                ..USUAL
+            };
+            line(rt, 23, 1, 0, g)?;
+        }
     }
     Ok(())
 }
 
-// Pointers, one in another, around an Int32.
-fn pointers() -> [u64; 48]
-    ensures { 48 ≡ length result }
-{
-    let mut ws = [0u64; 48];
-    let mut i = 0;
-    while i < 15 {
-        ws[3 * i] = Kind::POINTER;
-        i += 1;
-    }
-    ws[45] = Kind::INT32;
-    ws
-}
-
-fn deep_at(rt: &impl Print, level: u8) -> io::Result<()> {
-    let t = type_at(0);
-    let ws = t.words;
-    let p = pointers();
-    text(rt, b"16 layers at")?;
-    given(rt, level as u64)?;
-    text(rt, b":")?;
-    let n = Numbers {
-        records: MEMBERS,
-        known: 48,
-        target: 3,
-        level,
-        rounds: 64,
-        room: 576,
-        wide: 48,
-    };
-    ask(rt, n, &p, first(&ws, 0), &ws)
-}
-
-// Fifteen Pointers: their depth, one more and two more.
+// Fifteen Pointers around an Int32: their depth, one more and two more.
 pub(crate) fn deep(rt: &impl Print) -> io::Result<()> {
-    text(rt, b"depth\n")?;
-    deep_at(rt, 0)?;
-    deep_at(rt, 1)?;
-    deep_at(rt, 14)?;
-    deep_at(rt, 15)?;
-    deep_at(rt, 16)?;
-    deep_at(rt, 17)?;
-    deep_at(rt, 255)
-}
-
-fn of_records(rt: &impl Print, records: usize) -> io::Result<()> {
-    let t = type_at(0);
-    let ws = t.words;
-    given(rt, records as u64)?;
-    text(rt, b" records:")?;
-    let n = Numbers {
-        records,
-        known: 3,
-        target: 3,
-        level: 0,
-        rounds: 64,
-        room: 576,
-        wide: 48,
-    };
-    ask(rt, n, &ws, first(&ws, 0), &ws)
+    println!(rt; "depth")?;
+    let mut known = [POINTER; 16];
+    known[15] = INT32;
+    for level in [0, 1, 14, 15, 16, 17, 255] {
+        print!(rt; "16 layers at {level}:")?;
+        let g = Given { level, ..USUAL };
+        ask(rt, g, known.as_flattened(), &[], &INT32)?;
+    }
+    Ok(())
 }
 
 // A store that is not of so many records.
 pub(crate) fn disorder(rt: &impl Print) -> io::Result<()> {
-    text(rt, b"records\n")?;
-    of_records(rt, 0)?;
-    of_records(rt, 6)?;
-    of_records(rt, 7)?;
-    of_records(rt, 8)?;
-    of_records(rt, 129)
+    println!(rt; "records")?;
+    for records in [0, 6, 7, 8, 129] {
+        print!(rt; " {records} records:")?;
+        let g = Given { records, ..USUAL };
+        ask(rt, g, &INT32, &[], &INT32)?;
+    }
+    Ok(())
 }
