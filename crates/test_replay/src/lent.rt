@@ -1,136 +1,113 @@
 ghost use Rattle.std.specs.Prelude.{◌≤◌};
 
-use crate::runs::{after, from, run, word};
-use symbol_columns::{Column, Columns, Symbol};
+use crate::runs::Reader;
+use symbol_columns::{Column, Columns, Symbol, Table};
+use type_numbers::Limit;
 use write_words::write_words;
+
+// The words of a run.
+const RUN: usize = 640;
 
 // What stands in a lent word before the call; in the word i of a run, i more.
 pub(crate) const BEFORE: u64 = 7738715178780416602;
 
 // A run that nothing was written to.
-pub(crate) fn blank() -> [u64; 640] {
-    let mut ws = [BEFORE; 640];
-    let mut i = 0;
-    while i < 640 {
-        ws[i] = BEFORE + i as u64;
-        i += 1;
+pub(crate) fn blank() -> [u64; RUN] {
+    let mut words = [0; RUN];
+    for (i, word) in words.iter_mut().enumerate() {
+        *word = BEFORE + i as u64;
     }
-    ws
-}
-
-// Writes words over those from a place on, where they fit.
-pub(crate) fn lay(all: &mut [u64], at: usize, ws: &[u64]) {
-    if at <= all.len() {
-        write_words(&mut all[at..], ws);
-    }
+    words
 }
 
 // What a run is to hold whose first words were written.
-pub(crate) fn written(words: &[u64]) -> [u64; 640] {
-    let mut ws = blank();
-    lay(&mut ws, 0, words);
-    ws
+pub(crate) fn written(words: &[u64]) -> [u64; RUN] {
+    let mut all = blank();
+    write_words(&mut all, words);
+    all
 }
 
-// The records of a table, at most eight.
-pub(crate) fn records(table: &[u64]) -> usize
-    ensures { result ≤ 8 }
+// How many words of a run are lent: so many, or all.
+pub(crate) fn room(count: u64) -> usize
+    ensures { result ≤ 640 }
 {
-    let n = word(table, 0);
-    if n < 8 { n as usize } else { 8 }
+    RUN.min(count as usize)
 }
 
-// Puts a record's six fields into their columns.
-pub(crate) fn put(flat: &mut Columns, slot: usize, fields: &[u64]) {
-    if slot < 128 {
-        flat[slot] = word(fields, 0);
-        flat[slot + Column::AUTHORITY] = word(fields, 1);
-        flat[slot + Column::PLACE] = word(fields, 2);
-        flat[slot + Column::STATE] = word(fields, 3);
-        flat[slot + Column::LAYERS] = word(fields, 4);
-        flat[slot + Column::MARK] = word(fields, 5);
-    }
-}
-
-// The table in columns. Each record is its six fields and the run of its words.
-pub(crate) fn columns(table: &[u64]) -> Columns {
-    let mut flat = [0u64; Column::WORDS];
-    let n = records(table);
-    let mut rest = from(table, 1);
-    let mut k = 0;
-    while k < n {
-        put(&mut flat, k, rest);
-        let next = after(from(rest, 6));
-        rest = next;
-        k += 1;
-    }
-    flat
-}
-
-// The store: the words of slot k from 48 k on.
-pub(crate) fn store(table: &[u64]) -> [u64; 640] {
-    let mut ws = blank();
-    let n = records(table);
-    let mut rest = from(table, 1);
-    let mut k = 0;
-    while k < n {
-        let words = from(rest, 6);
-        lay(&mut ws, k * 48, run(words));
-        let next = after(words);
-        rest = next;
-        k += 1;
-    }
-    ws
-}
-
-fn id(w: u64) -> u32 {
-    if w < 4294967296 { w as u32 } else { 0 }
-}
-
-// A record from its six fields.
-pub(crate) fn symbol(fields: &[u64]) -> Symbol {
-    Symbol {
-        id: id(word(fields, 0)),
-        authority: word(fields, 1) == 1,
-        place: word(fields, 2),
-        state: word(fields, 3),
-        layers: word(fields, 4),
-        mark: word(fields, 5),
-    }
-}
-
-fn bit(b: bool) -> u64 {
-    if b { 1 } else { 0 }
-}
-
-// A record's six fields.
-pub(crate) fn fields(s: Symbol) -> [u64; 6] {
-    [
-        s.id as u64,
-        bit(s.authority),
-        s.place,
-        s.state,
-        s.layers,
-        s.mark,
-    ]
-}
-
-// A name and a mark, and how many words of the store are lent.
+// The six fields of a record, as words.
 #[derive(Clone, Copy)]
-pub(crate) struct Name {
-    pub id: u32,
-    pub authority: bool,
-    pub place: u64,
-    pub mark: u64,
-    pub words: usize,
+pub(crate) struct Fields(pub [u64; 6]);
+
+impl From<Symbol> for Fields {
+    fn from(s: Symbol) -> Fields {
+        let (id, authority) = (u64::from(s.id), u64::from(s.authority));
+        Fields([id, authority, s.place, s.state, s.layers, s.mark])
+    }
 }
 
-pub(crate) fn named(numbers: &[u64]) -> Name {
-    Name {
-        id: id(word(numbers, 0)),
-        authority: word(numbers, 1) == 1,
-        place: word(numbers, 2),
-        mark: word(numbers, 3),
-        words: word(numbers, 4) as usize,
+impl From<Fields> for Symbol {
+    fn from(fields: Fields) -> Symbol {
+        let [id, authority, place, state, layers, mark] = fields.0;
+        Symbol {
+            id: u32::try_from(id).unwrap_or(0),
+            authority: authority == 1,
+            place,
+            state,
+            layers,
+            mark,
+        }
+    }
+}
+
+// A table as it is lent: how many records it has, at most eight, their fields in columns, and the store, the words of slot k
+// from 48 k on.
+#[derive(Clone, Copy, PartialEq, Eq)]
+pub(crate) struct Lent {
+    pub records: usize,
+    pub columns: Columns,
+    pub store: [u64; RUN],
+}
+
+impl Lent {
+    // The table, with so many words of the store.
+    pub(crate) fn table(&self, words: u64) -> Table<'_, '_> {
+        Table {
+            columns: &self.columns,
+            count: self.records,
+            store: &self.store[..room(words)],
+        }
+    }
+
+    // Puts a record's fields into their columns.
+    pub(crate) fn put(&mut self, slot: usize, fields: Fields) {
+        for (column, field) in self.columns.chunks_exact_mut(Limit::RECORDS).zip(fields.0) {
+            if let Some(word) = column.get_mut(slot) {
+                *word = field;
+            }
+        }
+    }
+
+    // Lays a type's words into a slot, where they fit.
+    pub(crate) fn lay(&mut self, slot: usize, words: &[u64]) {
+        if slot < 8 {
+            write_words(&mut self.store[slot * Limit::SLOT_WORDS..], words);
+        }
+    }
+}
+
+// Of a table, given by its count of records and of each its six fields and the run of its words.
+impl From<&[u64]> for Lent {
+    fn from(table: &[u64]) -> Lent {
+        let mut table = Reader { rest: table };
+        let mut lent = Lent {
+            records: table.word().min(8) as usize,
+            columns: [0; Column::WORDS],
+            store: blank(),
+        };
+        for slot in 0..lent.records {
+            lent.put(slot, Fields(table.array()));
+            lent.lay(slot, table.run());
+        }
+        lent
     }
 }

@@ -20,6 +20,7 @@
 ghost use Rattle.std.specs.Prelude.{◌≤◌, IfOk, length};
 
 mod answer;
+mod case;
 mod changing;
 mod compare;
 mod fixing;
@@ -31,12 +32,13 @@ mod runs;
 use std::io;
 use std::io::Read;
 
-// Room for the whole list.
+// Room for the whole list. A function of its own: in `main` the check computes the array, and runs out of stack.
 fn buffer() -> [u8; 1048576] {
     [0; 1048576]
 }
 
-// Reads until the buffer is full or the input ends, and says how many bytes stand in it then.
+// Reads until the buffer is full or the input ends, and says how many bytes stand in it then. It stands in `pairs` too, since a
+// crate for this one function is no plainer.
 fn read_full(input: &mut impl Read, out: &mut [u8]) -> io::Result<usize>
     ensures { IfOk result (λ n. n ≤ length out.new) }
 {

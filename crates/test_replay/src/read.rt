@@ -1,84 +1,46 @@
-ghost use Rattle.std.specs.Prelude.{◌≤◌, ◌<◌, length};
+ghost use Rattle.std.specs.Prelude.{◌-◌, ◌≤◌, length};
 
-// A number, whether it is the last of its line, and where the next one starts.
+// The lines that are still to be read.
 #[derive(Clone, Copy)]
-pub(crate) struct Parsed {
-    pub value: u64,
-    pub last: bool,
-    pub next: usize,
+pub(crate) struct Lines<'a> {
+    pub rest: &'a [u8],
 }
 
-const NEWLINE: u8 = 10;
-
-// The digit's value; 10 and more of any other byte.
-fn digit(b: u8) -> u64
-    ensures { result ≤ 207 }
-{
-    if b < 48 { 10 } else { (b - 48) as u64 }
-}
-
-// The decimal number that starts at a place, and the place behind the byte that ends it. One too long for a word ends early.
-fn number(s: &[u8], at: usize) -> Parsed
-    requires { at ≤ length s.now }
-    ensures within { (at ≤ result.next) × (result.next ≤ length s.now) }
-    ensures onward { at < length s.now → at < result.next }
-{
-    let mut value: u64 = 0;
-    let mut i = at;
-    while i < s.len() {
-        let b = s[i];
-        let d = digit(b);
-        i += 1;
-        if d > 9 {
-            return Parsed {
-                value,
-                last: b == NEWLINE,
-                next: i,
+impl<'a> Lines<'a> {
+    // The next decimal number, and whether it ends its line; the byte that ends it is read too. One too long for a word ends
+    // early, and its digits go on as the next: so no `parse`.
+    fn number(&mut self) -> (u64, bool)
+        ensures { length self.new.rest.now ≤ length self.old.rest.now - 1 }
+    {
+        let text = self.rest;
+        let mut value = 0u64;
+        for (i, &byte) in text.iter().enumerate() {
+            self.rest = &text[i + 1..];
+            if !byte.is_ascii_digit() {
+                return (value, byte == b'\n');
+            }
+            let digit = u64::from(byte - b'0');
+            let Some(longer) = value.checked_mul(10).and_then(|v| v.checked_add(digit)) else {
+                return (value, false);
             };
+            value = longer;
         }
-        if value > (18446744073709551615 - d) / 10 {
-            return Parsed {
-                value,
-                last: false,
-                next: i,
-            };
-        }
-        value = value * 10 + d;
+        (value, true)
     }
-    Parsed {
-        value,
-        last: true,
-        next: i,
-    }
-}
 
-// How many numbers a line has, and where the next line starts.
-#[derive(Clone, Copy)]
-pub(crate) struct Numbers {
-    pub count: usize,
-    pub next: usize,
-}
-
-// The numbers of a line into the buffer. A line with more than there is room for ends early.
-pub(crate) fn line(s: &[u8], at: usize, out: &mut [u64]) -> Numbers
-    requires { at < length s.now }
-    ensures { (at < result.next) × (result.next ≤ length s.now) }
-{
-    let first = number(s, at);
-    let mut value = first.value;
-    let mut last = first.last;
-    let mut next = first.next;
-    let mut count = 0;
-    while count < out.len() {
-        out[count] = value;
-        count += 1;
-        if last {
-            return Numbers { count, next };
+    // The numbers of a line into the buffer, and how many there are. A line with more than there is room for ends early.
+    pub(crate) fn line(&mut self, out: &mut [u64]) -> usize
+        ensures onward { length self.new.rest.now ≤ length self.old.rest.now - 1 }
+        ensures within { result ≤ length out.new }
+    {
+        for (i, word) in out.iter_mut().enumerate() {
+            let (value, last) = self.number();
+            *word = value;
+            if last {
+                return i + 1;
+            }
         }
-        let n = number(s, next);
-        value = n.value;
-        last = n.last;
-        next = n.next;
+        self.number();
+        out.len()
     }
-    Numbers { count, next }
 }

@@ -1,35 +1,39 @@
-// The word at a place; 0 past the end.
-pub(crate) fn word(ws: &[u64], i: usize) -> u64 {
-    if i < ws.len() { ws[i] } else { 0 }
+// The words of a case that are still to be read.
+#[derive(Clone, Copy)]
+pub(crate) struct Reader<'a> {
+    pub rest: &'a [u64],
 }
 
-// The first words; all where there are fewer.
-pub(crate) fn first(ws: &[u64], n: usize) -> &[u64] {
-    if n <= ws.len() { &ws[..n] } else { ws }
-}
-
-// The words from a place on.
-pub(crate) fn from(ws: &[u64], at: usize) -> &[u64] {
-    if at <= ws.len() { &ws[at..] } else { &ws[..0] }
-}
-
-// The run whose count is the first word.
-pub(crate) fn run(ws: &[u64]) -> &[u64] {
-    first(from(ws, 1), word(ws, 0) as usize)
-}
-
-// The words after that run.
-pub(crate) fn after(ws: &[u64]) -> &[u64] {
-    from(from(ws, 1), word(ws, 0) as usize)
-}
-
-// Whether two runs have the same words.
-pub(crate) fn same(a: &[u64], b: &[u64]) -> bool {
-    let mut all = a.len() == b.len();
-    let mut i = 0;
-    while i < a.len() {
-        all = all & (a[i] == word(b, i));
-        i += 1;
+impl<'a> Reader<'a> {
+    // The next word; 0 past the end.
+    pub(crate) fn word(&mut self) -> u64 {
+        let Some((&word, rest)) = self.rest.split_first() else {
+            return 0;
+        };
+        self.rest = rest;
+        word
     }
-    all
+
+    // So many words.
+    pub(crate) fn array<const N: usize>(&mut self) -> [u64; N] {
+        let mut words = [0; N];
+        for word in &mut words {
+            *word = self.word();
+        }
+        words
+    }
+
+    // So many words, or all where there are fewer, in place.
+    pub(crate) fn words(&mut self, count: u64) -> &'a [u64] {
+        let words = self.rest;
+        let (front, rest) = words.split_at(words.len().min(count as usize));
+        self.rest = rest;
+        front
+    }
+
+    // A run: a count and so many words.
+    pub(crate) fn run(&mut self) -> &'a [u64] {
+        let count = self.word();
+        self.words(count)
+    }
 }
