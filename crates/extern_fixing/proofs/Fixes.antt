@@ -114,6 +114,6 @@ module _ (t : List ℕ) (external : Bool) (context room : ℕ) where
       unfolding fixed_type fixed
       for-extern f = rw (← e, known, f)
 
-      pub for-plain : external ≡ false → delivered room (given (fixed_plain (number_of c) (layers t))) ≡ fixed_type t external context room
+      pub for-plain : external ≡ false → delivered room (given (fixed_plain context (layers t))) ≡ fixed_type t external context room
       unfolding fixed_type fixed
-      for-plain f = rw (h, ← e, known, f)
+      for-plain f = rw (← e, known, f)

@@ -20,7 +20,7 @@ pub fn fix_type_for_flags(
     ensures buffer { out.new ≡ fixed_buffer t.now external context out.old }
 {
     check_type(t)?;
-    let context = Context::try_from(context)?;
+    Context::try_from(context)?;
     if external {
         fix_external(t, out)
     } else {

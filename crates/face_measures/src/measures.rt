@@ -5,7 +5,7 @@ ghost use Rattle.face_measures.specs.Measured as rules;
 
 use type_bounds::Halves;
 use type_layers::Refused;
-use write_answer::{Answer, accepted, refused};
+use write_answer::{Answer, accepted};
 
 // A start; 0 where there is no such part.
 #[tactic(auto, unfolding(write_answer::specs::Flat::flat))]
@@ -15,7 +15,7 @@ pub fn start(found: Result<Option<u64>, Refused>) -> Answer
     match found {
         Ok(Some(n)) => accepted(n),
         Ok(None) => accepted(0),
-        Err(e) => refused(e),
+        Err(e) => e.into(),
     }
 }
 
@@ -31,7 +31,7 @@ pub fn size(found: Result<Option<u64>, Refused>, out: &mut u64) -> Answer
             accepted(1)
         }
         Ok(None) => accepted(0),
-        Err(e) => refused(e),
+        Err(e) => e.into(),
     }
 }
 
@@ -47,6 +47,6 @@ pub fn bound(halves: Result<Halves, Refused>, low: &mut u64, high: &mut u64) -> 
             *high = h.high;
             accepted(0)
         }
-        Err(e) => refused(e),
+        Err(e) => e.into(),
     }
 }

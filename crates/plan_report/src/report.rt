@@ -1,5 +1,4 @@
 ghost use Rattle.std.specs.Prelude.{◌≡◌};
-ghost use Rattle.type_numbers.specs.Refusal.{number_of};
 ghost use Rattle.plan_report.specs.Report.{not_given, Reports};
 
 use type_layers::Refused;
@@ -18,12 +17,12 @@ pub struct Report {
 }
 
 // What is told of no plan.
-pub fn refuse(e: Refused) -> Report
-    ensures { result ≡ not_given (number_of e.refusal) e.place }
+pub fn refuse(number: u64, place: u64) -> Report
+    ensures { result ≡ not_given number place }
 {
     Report {
-        refusal: u64::from(e.refusal),
-        value: e.place,
+        refusal: number,
+        value: place,
         steps: 0,
         taken: 0,
         layers: 0,
@@ -39,7 +38,7 @@ impl From<Result<Report, Refused>> for Report {
     fn from(planned: Result<Report, Refused>) -> Report {
         match planned {
             Ok(report) => report,
-            Err(e) => refuse(e),
+            Err(e) => refuse(e.refusal.into(), e.place),
         }
     }
 }

@@ -9,7 +9,7 @@ use type_layers::{inner, outer};
 use type_numbers::Kind;
 
 // How a type coerces into another: not at all, as a value, or by its address.
-// No Option of two ways: document 01 numbers three answers, and none is the first.
+// No Option of two ways: the rules number three answers, and none is the first.
 #[derive(Clone, Copy, Debug, PartialEq, Eq)]
 pub enum Coercion {
     None,

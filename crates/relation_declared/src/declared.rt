@@ -6,7 +6,7 @@ use relation_equals::identical;
 use type_layers::{inner, outer};
 use type_numbers::Kind;
 
-// The list has Slice where that of like has EndlessArray: two rules of document 01, each a function with its own edits.
+// The list has Slice where that of like has EndlessArray: two rules, each a function with its own edits.
 fn declares_arraylike(k: u64, l: u64) -> bool
     ensures { result ≡ rules.declares_arraylike k l }
 {

@@ -8,7 +8,7 @@ use symbol_order::in_order;
 use symbol_search::slot_of;
 use type_layers::Refused;
 use type_numbers::{Refusal, State};
-use write_answer::{Answer, accepted, refused};
+use write_answer::{Answer, accepted};
 
 // What stands under a name: nothing, a type in a slot, or poison with its mark.
 #[derive(Clone, Copy, Debug, PartialEq, Eq)]
@@ -51,7 +51,7 @@ fn tell(got: Result<Found, Refused>, found: &mut u64) -> Answer
             *found = mark;
             accepted(State::POISONED)
         }
-        Err(e) => refused(e),
+        Err(e) => e.into(),
     }
 }
 

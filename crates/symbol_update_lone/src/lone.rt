@@ -8,7 +8,7 @@ use type_checks::is_type;
 use type_first_refusal::check_type;
 use type_layers::Refused;
 use type_numbers::{Effect, Limit, Refusal, State};
-use write_answer::{Answer, accepted, refused};
+use write_answer::{Answer, accepted};
 
 // Whether a taken record with its words is a table of one that is in order.
 #[tactic(auto, using(crate::proofs::Alone::miscounted, crate::proofs::Alone::poisoned_fits, crate::proofs::Alone::not_taken, crate::proofs::Alone::typed_fits))]
@@ -57,6 +57,6 @@ pub fn do_update_symbol(
 {
     match update_lone(symbol, words, name, offered) {
         Ok(effect) => accepted(effect.into()),
-        Err(e) => refused(e),
+        Err(e) => e.into(),
     }
 }

@@ -6,7 +6,7 @@ use symbol_change::choose;
 use symbol_columns::{Column, Identifier, Symbol};
 use symbol_lent::gather;
 use symbol_operations::Operation;
-use write_answer::{Answer, accepted, refused};
+use write_answer::{Answer, accepted};
 
 // Changes a lent table and its store. A type has no mark and poison no offered words: the one that is not asked for is
 // not looked at.
@@ -32,6 +32,6 @@ pub fn change_symbol(
             }
             accepted(change.effect.into())
         }
-        Err(e) => refused(e),
+        Err(e) => e.into(),
     }
 }

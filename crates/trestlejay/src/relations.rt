@@ -6,7 +6,7 @@ ghost use Rattle.write_answer.specs.Flat.{flat};
 
 use relation_questions::{Relation, holds, relates};
 use type_checks::is_type;
-use write_answer::{Answer, accepted, refused};
+use write_answer::{Answer, accepted};
 
 // Whether both are types. Nearly all that are asked about are, and of those no refusal has to be told.
 fn are_types(a: &[u64], b: &[u64]) -> bool
@@ -63,7 +63,7 @@ pub fn tj_coerces(a: &[u64], b: &[u64]) -> Answer
     }
     match relation_questions::coerces(a, b) {
         Ok(coercion) => accepted(u64::from(coercion)),
-        Err(e) => refused(e),
+        Err(e) => e.into(),
     }
 }
 

@@ -1,4 +1,4 @@
-// A kind of layer: its number. "Each kind's number is a constant of the kind", as document 01 names the form, and no enum:
+// A kind of layer: its number. "Each kind's number is a constant of the kind", as the rules name the form, and no enum:
 // C lends layers as words, and `outer` and the rules answer for any word.
 #[derive(Clone, Copy)]
 pub struct Kind(pub u64);

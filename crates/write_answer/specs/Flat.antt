@@ -1,5 +1,6 @@
 -- The paper's answers in the two words that C is handed.
 use Rattle.std.specs.Prelude.{Bool, ℕ, Result, ◌≡◌}
+use Rattle.type_numbers.specs.Refusal.{number_of}
 use Rattle.type_layers.specs.Answer as paper
 use Rattle.type_layers.specs.Answer.{given, nothing, refused, of_result, of_verdict}
 use Rattle.type_layers.specs.declared.answers.Refused.{Refused}
@@ -18,6 +19,10 @@ unfoldable pub flat : paper.Answer ℕ → Answer
 flat (given v) = accepted v
 flat nothing = accepted 0
 flat (refused n p) = not_accepted n p
+
+-- Of a refusal: its number and its place.
+abbrev pub FlatRefusal : Refused → Answer → Type 0
+FlatRefusal e a = a ≡ not_accepted (number_of e.refusal) e.place
 
 -- The answer to a question for a number, and to one for yes or no.
 abbrev pub FlatNumber : Result ℕ Refused → Answer → Type 0

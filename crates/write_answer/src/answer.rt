@@ -1,5 +1,4 @@
 ghost use Rattle.std.specs.Prelude.{◌≡◌};
-ghost use Rattle.type_numbers.specs.Refusal.{number_of};
 ghost use Rattle.write_answer.specs.Flat as rules;
 
 use type_layers::Refused;
@@ -18,12 +17,20 @@ pub fn accepted(value: u64) -> Answer
     Answer { refusal: 0, value }
 }
 
-pub fn refused(e: Refused) -> Answer
-    ensures { result ≡ rules.not_accepted (number_of e.refusal) e.place }
+pub fn refused(number: u64, place: u64) -> Answer
+    ensures { result ≡ rules.not_accepted number place }
 {
     Answer {
-        refusal: u64::from(e.refusal),
-        value: e.place,
+        refusal: number,
+        value: place,
+    }
+}
+
+impl From<Refused> for Answer {
+    ghost from_gives = { rules.FlatRefusal };
+
+    fn from(e: Refused) -> Answer {
+        refused(e.refusal.into(), e.place)
     }
 }
 
@@ -35,7 +42,7 @@ impl From<Result<u64, Refused>> for Answer {
     fn from(number: Result<u64, Refused>) -> Answer {
         match number {
             Ok(n) => accepted(n),
-            Err(e) => refused(e),
+            Err(e) => e.into(),
         }
     }
 }
@@ -48,7 +55,7 @@ impl From<Result<bool, Refused>> for Answer {
     fn from(verdict: Result<bool, Refused>) -> Answer {
         match verdict {
             Ok(yes) => accepted(u64::from(yes)),
-            Err(e) => refused(e),
+            Err(e) => e.into(),
         }
     }
 }
