@@ -27,7 +27,7 @@ returns-after-change c = (
 
 pub returns-in-Err : goal.returns-in-Err
 returns-in-Err c = (
-  answered _ _ _ _ _ _ _ _ _ _ c.gather.ensures _ c.in-Err.ensures _ c.into.ensures,
+  answered _ _ _ _ _ _ _ _ _ _ c.gather.ensures _ c.in-Err.ensures _ c.into-in-Err.ensures,
   table-kept _ _ _ _ _ _ _ _ _ _ c.gather.ensures _ c.in-Err.ensures _ refl refl,
   store-changed _ _ _ _ _ _ _ _ _ _ c.gather.ensures _ c.in-Err.ensures,
 )

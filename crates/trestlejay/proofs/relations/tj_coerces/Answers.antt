@@ -12,4 +12,4 @@ returns-in-Ok c = c.accepted-in-Ok.ensures ∙ rw c.from-in-Ok.ensures (ap flat 
 
 pub returns-in-Err : goal.returns-in-Err
 unfolding flat
-returns-in-Err c = c.refused.ensures ∙ ap flat c.in-Err.ensures
+returns-in-Err c = c.into.ensures ∙ ap flat c.in-Err.ensures
