@@ -1,20 +1,59 @@
 -- Words written over the front of a run.
 -- Assumes nothing.
-use mathlib.Core.Path.{◌≡◌, refl, ◌∙◌}
+use mathlib.Core.Path.{◌≡◌, refl, sym, ◌∙◌}
 use mathlib.Core.Bool.{Bool, true, false, cond}
 use mathlib.Core.List.{List, ◌++◌, append_assoc, append-nil}
-use Prim.Native.Nat.{ℕ, ◌+◌, ◌-◌, ◌≤◌}
+use Prim.Native.Nat.{ℕ, suc, ◌+◌, ◌-◌, ◌≤◌, ◌<◌}
+use native.Mathlib.Numerals.{add-one}
 use native.Mathlib.Omega.{arith}
 use lib.Dec.{ltb}
-use lib.ListN.{length, take, drop, length-append, length-drop, take-append-drop, drop_of_length-le}
-use lib.Seq.{take_all, take_at, drop_at, drop-drop, length-take-le}
-use borrow.Author.Tests.{le-ltb, ltb-false}
+use lib.ListN.{length, take, drop, set, get_or, length-append, length-drop, length-set, take-append-drop, drop_of_length-le}
+use lib.Seq.{take_all, take_at, drop_at, drop-drop, take-length, take-suc, drop-cons, set_at, length-take-le}
+use borrow.Author.Tests.{le-ltb, lt-ltb, ltb-false}
 use Rattle.write_words.specs.Written.{written}
 
 module _ (ws b : List ℕ) where
   pub fits : length ws ≤ length b → written ws b ≡ ws ++ drop (length ws) b
   unfolding written
   fits h = rw (le-ltb (length b) (length ws) h)
+
+  pub too_short : length b < length ws → b ≡ written ws b
+  unfolding written
+  too_short h = rw (lt-ltb (length b) (length ws) h)
+
+-- the first words are written over the front
+abbrev first : List ℕ → List ℕ → ℕ → List ℕ
+first ws b i = take i ws ++ drop i b
+
+-- what the loop knows before the word at i
+pub record Begun (ws b l : List ℕ) (i : ℕ) : Type 0 where
+  pub within : i ≤ length ws
+  pub room : length ws ≤ length b
+  pub same : length l ≡ length b
+  pub is : l ≡ first ws b i
+
+module _ (ws b : List ℕ) where
+  pub begin : length ws ≤ length b → Begun ws b b 0
+  begin h = record { within = omega arith; room = h; same = refl; is = refl }
+
+  pub go_on : (l : List ℕ) (i : ℕ) → Begun ws b l i → i < length ws → Begun ws b (set l i (get_or ws i 0)) (i + 1)
+  go_on l i p h =
+      let n : length (take i ws) ≡ i = length-take-le i ws (omega arith) in
+      let k : i < length b = omega (arith, p.room) in
+      record {
+        within = omega arith;
+        room = p.room;
+        same = simp length-set p.same;
+        is =
+            rw (p.is, add-one, drop-cons b i 0, set_at (take i ws) (get_or b i 0) (drop (suc i) b) (get_or ws i 0) i n, take-suc ws i 0, append_assoc);
+      }
+
+  pub all : (l : List ℕ) (i : ℕ) → Begun ws b l i → length ws ≤ i → l ≡ written ws b
+  all l i p h =
+      let n : i ≡ length ws = omega (arith, p.within) in
+      (rw (n, take-length ws) at p.is) ∙ sym (fits ws b p.room)
+
+pub ruleset written_so = (too_short, begin, go_on, all)
 
 -- a run's length stays
 pub length-written : (ws b : List ℕ) → length (written ws b) ≡ length b
