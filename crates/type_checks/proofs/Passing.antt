@@ -163,3 +163,6 @@ counted-by ws good f e = by-checks (bad_count (length ws)) (bad_layer 0 (layers 
     by-checks false (at p) q e = absurd (false≢true e)
     by-checks false nowhere (at q) e = absurd (false≢true e)
     by-checks false nowhere nowhere e = refl
+
+-- what the layers of some words are told by
+pub ruleset layers_by = (few_words, last-leaf, good-holder, bad-holder)

@@ -2,7 +2,7 @@
 -- Assumes nothing.
 use mathlib.Core.Path.{◌≡◌, refl, sym, ap, ◌∙◌}
 use mathlib.Core.Bool.{Bool, true, false, cond, not, ◌&&◌, ◌||◌, and-true, and-false, true≢false, false≢true}
-use Prim.Native.Nat.{ℕ, zero, suc, ◌-◌, ◌^◌, ◌≤◌}
+use Prim.Native.Nat.{ℕ, zero, suc, ◌-◌, ◌^◌, ◌≤◌, ◌<◌}
 use native.Mathlib.Omega.{arith}
 use lib.Dec.{eqb, leb, ltb}
 use borrow.Author.Tests.{le-ltb, lt-leb, lt-ltb, ltb-true, ltb-false, ne_eqb, eqb-true, eqb-false}
@@ -31,7 +31,7 @@ module _ (k n m : ℕ) where
   unfolding good_layer
   of_named e = rw e
 
-  pub of_holder : (f : Bool) → f ≡ holds_inner k → (k ≡ 14 → ⊥) → (k ≡ 15 → ⊥) →
+  of_holder : (f : Bool) → f ≡ holds_inner k → (k ≡ 14 → ⊥) → (k ≡ 15 → ⊥) →
       (eqb n 0 && eqb m 0 && f) ≡ (holds_inner k && good_layer (layer k n m))
   unfolding good_layer
   of_holder f e a b = rw e (by-holding (holds_inner k) refl)
@@ -62,6 +62,44 @@ module _ (k n m : ℕ) where
           rw (known h, ne_eqb k 14 a, ne_eqb k 15 b, apart holds_inner k 20 true h refl, apart holds_inner k 21 true h refl, apart holds_inner k 22 true h refl)
           (all-three (eqb n 0) (eqb m 0))
       by-holding false h = none-of (eqb n 0) (eqb m 0)
+
+  -- one without a name and a number
+  pub of_common : (eqb n 0 && eqb m 0) ≡ true → (f : Bool) → f ≡ holds_inner k → f ≡ (holds_inner k && good_layer (layer k n m))
+  of_common z f e = by-kind (eqb k 14) (eqb k 15) refl refl
+    where
+      zeros : (u v w : Bool) → (u && v) ≡ true → w ≡ (u && v && w)
+      zeros true true w p = refl
+      zeros true false w p = absurd (true≢false (sym p))
+      zeros false v w p = absurd (true≢false (sym p))
+
+      small-name : (j : ℕ) → (eqb j 0 && eqb m 0) ≡ true → (leb j (2 ^ 32 - 1) && eqb m 0) ≡ true
+      small-name j p = rw (eqb-true j 0 (first (eqb j 0) (eqb m 0) p)) (second (eqb j 0) (eqb m 0) p)
+        where
+          first : (u v : Bool) → (u && v) ≡ true → u ≡ true
+          first true v q = refl
+          first false v q = absurd (true≢false (sym q))
+
+          second : (u v : Bool) → (u && v) ≡ true → v ≡ true
+          second true v q = q
+          second false v q = absurd (true≢false (sym q))
+
+      name-zero : (u v : Bool) → (u && v) ≡ true → u ≡ true
+      name-zero true v q = refl
+      name-zero false v q = absurd (true≢false (sym q))
+
+      by-kind : (x y : Bool) → eqb k 14 ≡ x → eqb k 15 ≡ y → f ≡ (holds_inner k && good_layer (layer k n m))
+      by-kind true y p q = rw (e, ← of_array (eqb-true k 14 p), name-zero (eqb n 0) (eqb m 0) z) (ap holds_inner (eqb-true k 14 p))
+      by-kind false true p q = rw (e, ← of_named (eqb-true k 15 q), small-name n z) (ap holds_inner (eqb-true k 15 q))
+      by-kind false false p q = zeros (eqb n 0) (eqb m 0) f z ∙ of_holder f e (eqb-false k 14 p) (eqb-false k 15 q)
+
+  -- another one with a name or a number
+  pub of-other : (eqb n 0 && eqb m 0) ≡ false → (k ≡ 14 → ⊥) → (k ≡ 15 → ⊥) → false ≡ (holds_inner k && good_layer (layer k n m))
+  of-other z a b = nothing (eqb n 0) (eqb m 0) z ∙ of_holder (holds_inner k) refl a b
+    where
+      nothing : (u v : Bool) → (u && v) ≡ false → false ≡ (u && v && holds_inner k)
+      nothing true true q = absurd (true≢false q)
+      nothing true false q = refl
+      nothing false v q = refl
 
   -- a leaf
   pub of_struct : k ≡ 20 → (leb n (2 ^ 32 - 1) && eqb m 0) ≡ (not (holds_inner k) && good_layer (layer k n m))
@@ -100,7 +138,7 @@ module _ (k n m : ℕ) where
       by-tests false false false true e = refl
       by-tests false m1 false false e = refl
 
-  pub of_plain : (k ≡ 20 → ⊥) → (k ≡ 21 → ⊥) → (k ≡ 22 → ⊥) →
+  of_plain : (k ≡ 20 → ⊥) → (k ≡ 21 → ⊥) → (k ≡ 22 → ⊥) →
       (ltb k 14 && eqb n 0 && eqb m 0) ≡ (not (holds_inner k) && good_layer (layer k n m))
   unfolding good_layer
   of_plain a b c = by_count (ltb k 14) refl
@@ -124,3 +162,16 @@ module _ (k n m : ℕ) where
           let l = ltb-true k 14 g in
           rw (ne_eqb k 14 (λ z. omega arith), ne_eqb k 15 (λ z. omega arith), ne_eqb k 16 (λ z. omega arith), ne_eqb k 17 (λ z. omega arith), ne_eqb k 18 (λ z. omega arith), ne_eqb k 19 (λ z. omega arith), ne_eqb k 20 (λ z. omega arith), ne_eqb k 21 (λ z. omega arith), ne_eqb k 22 (λ z. omega arith), ne_eqb k 23 (λ z. omega arith), ne_eqb k 24 (λ z. omega arith), lt-ltb k 25 (omega arith))
       by_count false g = far (ltb-false k 14 g) (holds_inner k) refl
+
+  pub of_low : k < 14 → (eqb n 0 && eqb m 0) ≡ (not (holds_inner k) && good_layer (layer k n m))
+  of_low l =
+      rw (lt-ltb k 14 l) at
+      (of_plain (λ e. omega arith) (λ e. omega arith) (λ e. omega arith))
+
+  pub no-leaf : 14 ≤ k → (k ≡ 20 → ⊥) → (k ≡ 21 → ⊥) → (k ≡ 22 → ⊥) → false ≡ (not (holds_inner k) && good_layer (layer k n m))
+  no-leaf l a b c = rw (le-ltb k 14 l) at (of_plain a b c)
+
+-- what a holder and a leaf are told by
+pub ruleset holder_by = (of_common, of_array, of_named, of-other)
+
+pub ruleset leaf_by = (of_low, of_struct, of_word, of-unresolved, no-leaf)

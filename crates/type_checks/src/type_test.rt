@@ -7,6 +7,7 @@ use crate::good_layers::{good_holder, good_leaf};
 use type_numbers::Limit;
 
 // Whether words are layers that hold an inner type, one after the other, and a leaf.
+#[tactic(auto, using(crate::proofs::Passing::layers_by))]
 fn are_layers(ws: &[u64]) -> bool
     ensures { result ≡ good_words ws.now }
 {
