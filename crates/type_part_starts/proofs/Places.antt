@@ -7,10 +7,11 @@ use mathlib.Core.List.{List, [], ◌∷◌}
 use Prim.Native.Nat.{ℕ, ◌+◌, ◌*◌, ◌-◌, ◌≤◌}
 use native.Mathlib.Omega.{arith}
 use lib.ListN.{length, length-drop}
-use Rattle.std.specs.Prelude.{◌↔◌, Option, Some, None, IsSome, IfSome, IsTrue}
+use Rattle.std.specs.Prelude.{◌↔◌, Option, Some, None, IsSome, IsTrue}
 use Rattle.type_layers.specs.Layers.{layers, outer, is_reference}
 use Rattle.type_layers.specs.Answer.{given}
 use Rattle.type_parts.specs.Parts.{inner_if, element_of, pointee_of, viewee_of, references, fully_dereferenced, has_element, has_pointee, has_viewee}
+use Rattle.type_parts.specs.AsCoded.{words_of}
 use Rattle.type_part_starts.specs.PartStarts.{inner_start, start_in}
 use Rattle.type_part_starts.specs.AsCoded.{ReachesToTheEnd}
 use Rattle.type_part_starts.specs.declared.part_starts.Part.{Part}
@@ -27,10 +28,10 @@ module _ (has : ℕ → Bool) (none : has 25 ≡ false) where
 
   -- so an inner type starts three words in
   inner-reaches : (p : Part) (ws : List ℕ) (r : Option (Bor (List ℕ))) → start_in p (layers ws) ≡ inner_start (has (outer (layers ws))) →
-      (IsSome r ↔ IsTrue (has (outer (layers ws)))) → IfSome r (λ l. l.now ≡ inner_if (has (outer (layers ws))) ws) → ReachesToTheEnd p ws r
+      (IsSome r ↔ IsTrue (has (outer (layers ws)))) → words_of r ≡ inner_if (has (outer (layers ws))) ws → ReachesToTheEnd p ws r
   inner-reaches p ws r e = by_test (has (outer (layers ws))) r refl
     where
-      by_test : (b : Bool) (r : Option (Bor (List ℕ))) → has (outer (layers ws)) ≡ b → (IsSome r ↔ IsTrue b) → IfSome r (λ l. l.now ≡ inner_if b ws) → ReachesToTheEnd p ws r
+      by_test : (b : Bool) (r : Option (Bor (List ℕ))) → has (outer (layers ws)) ≡ b → (IsSome r ↔ IsTrue b) → words_of r ≡ inner_if b ws → ReachesToTheEnd p ws r
       by_test true (Some l) f i w =
           let n : length l.now ≡ length ws - 3 = ap length w ∙ length-drop 3 ws in
           let h = outer-words ws f in
@@ -54,15 +55,15 @@ within (k ∷ n ∷ m ∷ ws) = by_kind (is_reference k) (within ws)
 
 -- each part, where it was asked for
 module _ (p : Part) (ws : List ℕ) (r : Option (Bor (List ℕ))) where
-  pub element : p ≡ part.Element → (IsSome r ↔ IsTrue (has_element (outer (layers ws)))) → IfSome r (λ l. l.now ≡ element_of ws) → ReachesToTheEnd p ws r
+  pub element : p ≡ part.Element → (IsSome r ↔ IsTrue (has_element (outer (layers ws)))) → words_of r ≡ element_of ws → ReachesToTheEnd p ws r
   unfolding start_in element_of
   element e i w = inner-reaches has_element refl p ws r (rw e) i w
 
-  pub pointee : p ≡ part.Pointee → (IsSome r ↔ IsTrue (has_pointee (outer (layers ws)))) → IfSome r (λ l. l.now ≡ pointee_of ws) → ReachesToTheEnd p ws r
+  pub pointee : p ≡ part.Pointee → (IsSome r ↔ IsTrue (has_pointee (outer (layers ws)))) → words_of r ≡ pointee_of ws → ReachesToTheEnd p ws r
   unfolding start_in pointee_of
   pointee e i w = inner-reaches has_pointee refl p ws r (rw e) i w
 
-  pub viewee : p ≡ part.Viewee → (IsSome r ↔ IsTrue (has_viewee (outer (layers ws)))) → IfSome r (λ l. l.now ≡ viewee_of ws) → ReachesToTheEnd p ws r
+  pub viewee : p ≡ part.Viewee → (IsSome r ↔ IsTrue (has_viewee (outer (layers ws)))) → words_of r ≡ viewee_of ws → ReachesToTheEnd p ws r
   unfolding start_in viewee_of
   viewee e i w = inner-reaches has_viewee refl p ws r (rw e) i w
 

@@ -7,8 +7,9 @@ use contract.Lifetimes.{Lfts}
 use denote.Triple.Clauses.{AtExit}
 use borrow.Fn.Kinds.{Out, Dens, res_t, ended_of}
 use denote.Ref.{Bor}
-use Rattle.std.specs.Prelude.{◌↔◌, Option, Some, None, IsSome, IfSome}
+use Rattle.std.specs.Prelude.{◌↔◌, Option, Some, None, IsSome}
 use Rattle.type_layers.proofs.Single.{SinglePart}
+use Rattle.type_parts.specs.AsCoded.{words_of}
 use Rattle.type_parts.proofs.parts.get_element_type.Kinds as found-kinds
 use Rattle.type_parts.proofs.parts.get_element_type.Reads as element
 use Rattle.type_parts.proofs.parts.get_pointee_type.Reads as pointee
@@ -20,8 +21,8 @@ abbrev pub words : Option (Bor (List ℕ)) → Option (List ℕ)
 words (Some part) = Some part.now
 words None = None
 
-same_words : (P : Type 0) (ws : List ℕ) (x y : Option (Bor (List ℕ))) → (IsSome x ↔ P) → IfSome x (λ part. part.now ≡ ws) →
-    (IsSome y ↔ P) → IfSome y (λ part. part.now ≡ ws) → words x ≡ words y
+same_words : (P : Type 0) (ws : List ℕ) (x y : Option (Bor (List ℕ))) → (IsSome x ↔ P) → words_of x ≡ ws →
+    (IsSome y ↔ P) → words_of y ≡ ws → words x ≡ words y
 same_words P ws (Some a) (Some b) f p g q = ap Some (p ∙ sym q)
 same_words P ws (Some a) None f p g q = let h : IsSome {T = Bor (List ℕ)} None = g.1 (f.0 refl) in cc
 same_words P ws None (Some b) f p g q = let h : IsSome {T = Bor (List ℕ)} None = f.1 (g.0 refl) in cc

@@ -1,6 +1,7 @@
-ghost use Rattle.std.specs.Prelude.{◌≡◌, ◌↔◌, IsTrue, IsSome, IfSome};
-ghost use Rattle.type_layers.specs.Layers.{layers, outer, inner_words};
-ghost use Rattle.type_parts.specs.Parts.{element_of, pointee_of, viewee_of, fully_dereferenced, has_element, has_pointee, has_viewee};
+ghost use Rattle.std.specs.Prelude.{◌≡◌, ◌↔◌, IsTrue, IsSome};
+ghost use Rattle.type_layers.specs.Layers.{layers, outer};
+ghost use Rattle.type_parts.specs.Parts.{element_of, pointee_of, viewee_of, fully_dereferenced, has_element, has_pointee, has_viewee, inner_if};
+ghost use Rattle.type_parts.specs.AsCoded.{words_of};
 
 use type_layers::{inner, is_array, is_reference, is_slice, outer};
 use type_numbers::Kind;
@@ -14,7 +15,7 @@ fn has_element(k: u64) -> bool
 // The inner type where the type has it.
 fn inner_if(there: bool, a: &[u64]) -> Option<&[u64]>
     ensures there { IsSome result ↔ IsTrue there }
-    ensures words { IfSome result (λ part. part.now ≡ inner_words a.now) }
+    ensures words { words_of result ≡ inner_if there a.now }
 {
     if there { Some(inner(a)) } else { None }
 }
@@ -23,7 +24,7 @@ fn inner_if(there: bool, a: &[u64]) -> Option<&[u64]>
 #[tactic(auto, unfolding(crate::specs::Parts::element_of))]
 pub fn get_element_type(a: &[u64]) -> Option<&[u64]>
     ensures there { IsSome result ↔ IsTrue (has_element (outer (layers a.now))) }
-    ensures words { IfSome result (λ part. part.now ≡ element_of a.now) }
+    ensures words { words_of result ≡ element_of a.now }
 {
     inner_if(has_element(outer(a)), a)
 }
@@ -32,7 +33,7 @@ pub fn get_element_type(a: &[u64]) -> Option<&[u64]>
 #[tactic(auto, unfolding(crate::specs::Parts::pointee_of))]
 pub fn get_pointee_type(a: &[u64]) -> Option<&[u64]>
     ensures there { IsSome result ↔ IsTrue (has_pointee (outer (layers a.now))) }
-    ensures words { IfSome result (λ part. part.now ≡ pointee_of a.now) }
+    ensures words { words_of result ≡ pointee_of a.now }
 {
     inner_if(outer(a) == Kind::POINTER, a)
 }
@@ -41,7 +42,7 @@ pub fn get_pointee_type(a: &[u64]) -> Option<&[u64]>
 #[tactic(auto, unfolding(crate::specs::Parts::viewee_of))]
 pub fn get_viewee_type(a: &[u64]) -> Option<&[u64]>
     ensures there { IsSome result ↔ IsTrue (has_viewee (outer (layers a.now))) }
-    ensures words { IfSome result (λ part. part.now ≡ viewee_of a.now) }
+    ensures words { words_of result ≡ viewee_of a.now }
 {
     inner_if(outer(a) == Kind::VIEW, a)
 }
