@@ -15,9 +15,9 @@ pub struct Ending {
     pub coerced: bool,
 }
 
-// Of a current type of the pointer depth p.
-pub fn ending_of(s: Settling, p: u64, depth: u64) -> Ending
-    ensures { result ≡ ending.ending_of s p depth }
+// Of a current type of the pointer depth p; a refusal is handed back.
+pub fn ending_of<E: Copy>(settling: Result<Settling, E>, p: u64, depth: u64) -> Result<Ending, E>
+    ensures { result ≡ ending.ending_of settling p depth }
 {
     let plain = Ending {
         extra: 0,
@@ -31,37 +31,42 @@ pub fn ending_of(s: Settling, p: u64, depth: u64) -> Ending
         address: true,
         ..plain
     };
-    match s {
-        Settling::Identical | Settling::SlicePointer => plain,
-        Settling::Viewed => Ending {
+    match settling {
+        Ok(Settling::Identical | Settling::SlicePointer) => Ok(plain),
+        Ok(Settling::Viewed) => Ok(Ending {
             extra: 1,
             kind: StepKind::AUTOVIEW,
             ..plain
-        },
-        Settling::Coerced => Ending {
+        }),
+        Ok(Settling::Coerced) => Ok(Ending {
             coerced: true,
             ..plain
-        },
-        Settling::PointedTo | Settling::Addressed => addressed,
-        Settling::AddressCoerced => Ending {
+        }),
+        Ok(Settling::PointedTo | Settling::Addressed) => Ok(addressed),
+        Ok(Settling::AddressCoerced) => Ok(Ending {
             coerced: true,
             ..addressed
-        },
-        Settling::Dereferenced => Ending {
+        }),
+        Ok(Settling::Dereferenced) => Ok(Ending {
             extra: p.saturating_sub(depth),
             lead: depth,
             ..plain
-        },
+        }),
+        Err(e) => Err(e),
     }
 }
 
-// The words of the reported type after its Pointers.
-pub fn body_of<'a>(s: Settling, cur: &'a [u64], target: &'a [u64]) -> &'a [u64]
-    ensures { result.now ≡ ending.body_of s cur.now target.now }
+// The words of the reported type after its Pointers; of a refusal, those of the current type.
+pub fn body_of<'a, E: Copy>(
+    settling: Result<Settling, E>,
+    cur: &'a [u64],
+    target: &'a [u64],
+) -> &'a [u64]
+    ensures { result.now ≡ ending.body_of settling cur.now target.now }
 {
-    match s {
-        Settling::Viewed => target,
-        Settling::Dereferenced => fully_dereferenced(cur),
+    match settling {
+        Ok(Settling::Viewed) => target,
+        Ok(Settling::Dereferenced) => fully_dereferenced(cur),
         _ => cur,
     }
 }
