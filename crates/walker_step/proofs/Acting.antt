@@ -115,13 +115,14 @@ no-slice ws true mark h = refl
 no-slice ws false mark h = rw (none ws h)
 
 -- whole layers stay whole
-pub moves-on : (ws m : List ℕ) (b : Bool) (s mark l : ℕ) (there : Bool) (x : Move) → Some x ≡ move_of s mark (outer (seen ws b)) l there →
+pub moves-on : (ws m : List ℕ) (b : Bool) (s mark l : ℕ) (there : Bool) (x : Option Move) → x ≡ move_of s mark (outer (seen ws b)) l there →
     Whole ws → Whole m → Current (onward x ws m) (desliced x)
 unfolding onward desliced
-moves-on ws m b s mark l there Inside e w v = (inner-whole ws w, λ f. absurd (false≢true f))
-moves-on ws m b s mark l there TwoInside e w v = (inner-whole (drop 3 ws) (inner-whole ws w), λ f. absurd (false≢true f))
-moves-on ws m b s mark l there Member e w v = (v, λ f. absurd (false≢true f))
-moves-on ws m b s mark l there Deslice e w v = (w, λ f. by_length (leb 3 (length ws)) refl)
+moves-on ws m b s mark l there None e w v = (w, λ f. absurd (false≢true f))
+moves-on ws m b s mark l there (Some Inside) e w v = (inner-whole ws w, λ f. absurd (false≢true f))
+moves-on ws m b s mark l there (Some TwoInside) e w v = (inner-whole (drop 3 ws) (inner-whole ws w), λ f. absurd (false≢true f))
+moves-on ws m b s mark l there (Some Member) e w v = (v, λ f. absurd (false≢true f))
+moves-on ws m b s mark l there (Some Deslice) e w v = (w, λ f. by_length (leb 3 (length ws)) refl)
   where
     by_length : (f : Bool) → leb 3 (length ws) ≡ f → 3 ≤ length ws
     by_length true f = leb-true 3 (length ws) f

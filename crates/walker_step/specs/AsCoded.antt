@@ -36,23 +36,25 @@ move_of s mark k l there =
 unfoldable pub seen : List ℕ → Bool → List Layer
 seen ws b = cond b (layer kind.arraylike 0 0 ∷ inside (layers ws)) (layers ws)
 
--- The words where a move leads, and the flag there.
-unfoldable pub onward : Move → List ℕ → List ℕ → List ℕ
-onward Inside ws stored = inner_words ws
-onward TwoInside ws stored = inner_words (inner_words ws)
-onward Deslice ws stored = ws
-onward Member ws stored = stored
+-- The words where a move leads, and the flag there; where a step sticks, the words are those where the walker is.
+unfoldable pub onward : Option Move → List ℕ → List ℕ → List ℕ
+onward None ws stored = ws
+onward (Some Inside) ws stored = inner_words ws
+onward (Some TwoInside) ws stored = inner_words (inner_words ws)
+onward (Some Deslice) ws stored = ws
+onward (Some Member) ws stored = stored
 
-unfoldable pub desliced : Move → Bool
-desliced Inside = false
-desliced TwoInside = false
-desliced Deslice = true
-desliced Member = false
+unfoldable pub desliced : Option Move → Bool
+desliced None = false
+desliced (Some Inside) = false
+desliced (Some TwoInside) = false
+desliced (Some Deslice) = true
+desliced (Some Member) = false
 
 -- Where the walker is then.
 unfoldable pub moved : Option Move → List ℕ → List ℕ → Where
 moved None ws stored = stuck
-moved (Some m) ws stored = at (seen (onward m ws stored) (desliced m))
+moved (Some m) ws stored = at (seen (onward (Some m) ws stored) (desliced (Some m)))
 
 -- Words of whole layers; and, where the flag is set, of at least one.
 abbrev pub Current : List ℕ → Bool → Type 0

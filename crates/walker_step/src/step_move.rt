@@ -58,23 +58,23 @@ pub fn kind_of(cur: &[u64], desliced: bool) -> u64
     }
 }
 
-// The words where a move leads: a part of the current ones, or the member's.
+// The words where a move leads: a part of the current ones, or the member's. Where a step sticks, the current ones.
 #[tactic(auto, unfolding(crate::specs::AsCoded::onward))]
-pub fn go<'a>(m: Move, cur: &'a [u64], stored: &'a [u64]) -> &'a [u64]
+pub fn go<'a>(m: Option<Move>, cur: &'a [u64], stored: &'a [u64]) -> &'a [u64]
     ensures { result.now ≡ rules.onward m cur.now stored.now }
 {
     match m {
-        Move::Inside => inner(cur),
-        Move::TwoInside => inner(inner(cur)),
-        Move::Deslice => cur,
-        Move::Member => stored,
+        None | Some(Move::Deslice) => cur,
+        Some(Move::Inside) => inner(cur),
+        Some(Move::TwoInside) => inner(inner(cur)),
+        Some(Move::Member) => stored,
     }
 }
 
 // Whether the outer layer counts as Arraylike after a move.
 #[tactic(auto, unfolding(crate::specs::AsCoded::desliced))]
-pub fn is_desliced(m: Move) -> bool
+pub fn is_desliced(m: Option<Move>) -> bool
     ensures { result ≡ rules.desliced m }
 {
-    matches!(m, Move::Deslice)
+    matches!(m, Some(Move::Deslice))
 }
