@@ -62,25 +62,35 @@ whole-few ws w = omega (arith, spelled-length (layers ws), ap length (spelled-la
 pub whole-depth : (ws : List ℕ) → Whole ws → pointer_depth (layers ws) ≤ 16
 whole-depth ws w = omega (arith, depth-few (layers ws), whole-few ws w)
 
-pub extra-few : (s : Settling) (p n : ℕ) (e : Ending) → e ≡ ending_of s p n → p ≤ 16 → e.extra ≤ 16
-extra-few settling.Identical p n e h q = rw h (omega arith)
-extra-few settling.Viewed p n e h q = rw h (omega arith)
-extra-few settling.Coerced p n e h q = rw h (omega arith)
-extra-few settling.SlicePointer p n e h q = rw h (omega arith)
-extra-few settling.PointedTo p n e h q = rw h (omega arith)
-extra-few settling.AddressCoerced p n e h q = rw h (omega arith)
-extra-few settling.Addressed p n e h q = rw h (omega arith)
-extra-few settling.Dereferenced p n e h q = rw h (omega arith)
+-- what a settling that is given adds
+ok_is : (e f : Ending) → Path (Result Ending Refusal) (Ok e) (Ok f) → e ≡ f
+ok_is e f h = cc
 
-pub lead-few : (s : Settling) (p n : ℕ) (e : Ending) → e ≡ ending_of s p n → n ≤ 255 → e.lead ≤ 255
-lead-few settling.Identical p n e h q = rw h (omega arith)
-lead-few settling.Viewed p n e h q = rw h (omega arith)
-lead-few settling.Coerced p n e h q = rw h (omega arith)
-lead-few settling.SlicePointer p n e h q = rw h (omega arith)
-lead-few settling.PointedTo p n e h q = rw h (omega arith)
-lead-few settling.AddressCoerced p n e h q = rw h (omega arith)
-lead-few settling.Addressed p n e h q = rw h (omega arith)
-lead-few settling.Dereferenced p n e h q = rw h q
+pub extra-few : (s : Result Settling Refusal) (p n : ℕ) (e : Ending) → Ok e ≡ ending_of s p n → p ≤ 16 → e.extra ≤ 16
+extra-few (Ok settling.Identical) p n e h q = rw (ok_is e _ h) (omega arith)
+extra-few (Ok settling.Viewed) p n e h q = rw (ok_is e _ h) (omega arith)
+extra-few (Ok settling.Coerced) p n e h q = rw (ok_is e _ h) (omega arith)
+extra-few (Ok settling.SlicePointer) p n e h q = rw (ok_is e _ h) (omega arith)
+extra-few (Ok settling.PointedTo) p n e h q = rw (ok_is e _ h) (omega arith)
+extra-few (Ok settling.AddressCoerced) p n e h q = rw (ok_is e _ h) (omega arith)
+extra-few (Ok settling.Addressed) p n e h q = rw (ok_is e _ h) (omega arith)
+extra-few (Ok settling.Dereferenced) p n e h q = rw (ok_is e _ h) (omega arith)
+extra-few (Err r) p n e h q = cc
+
+pub lead-few : (s : Result Settling Refusal) (p n : ℕ) (e : Ending) → Ok e ≡ ending_of s p n → n ≤ 255 → e.lead ≤ 255
+lead-few (Ok settling.Identical) p n e h q = rw (ok_is e _ h) (omega arith)
+lead-few (Ok settling.Viewed) p n e h q = rw (ok_is e _ h) (omega arith)
+lead-few (Ok settling.Coerced) p n e h q = rw (ok_is e _ h) (omega arith)
+lead-few (Ok settling.SlicePointer) p n e h q = rw (ok_is e _ h) (omega arith)
+lead-few (Ok settling.PointedTo) p n e h q = rw (ok_is e _ h) (omega arith)
+lead-few (Ok settling.AddressCoerced) p n e h q = rw (ok_is e _ h) (omega arith)
+lead-few (Ok settling.Addressed) p n e h q = rw (ok_is e _ h) (omega arith)
+lead-few (Ok settling.Dereferenced) p n e h q = rw (ok_is e _ h) q
+lead-few (Err r) p n e h q = cc
+
+-- only a settling that is refused has no ending: the same refusal
+refusal_is : (s : Result Settling Refusal) (p n : ℕ) (r : Refusal) → Err r ≡ ending_of s p n → s ≡ Err r
+refusal_is s p n r h = grind arith
 
 dereferenced-whole : (ws : List ℕ) → Whole ws → Whole (fully_dereferenced ws)
 unfolding fully_dereferenced
@@ -88,15 +98,16 @@ dereferenced-whole ws w =
     let n = length-drop (references (layers ws) * 3) ws in
     record { whole = omega (arith, n, w.whole); few = omega (arith, n, w.few) }
 
-pub body-whole : (s : Settling) (c t b : List ℕ) → b ≡ body_of s c t → Whole c → Whole t → Whole b
-body-whole settling.Identical c t r e p q = rw e p
-body-whole settling.Viewed c t r e p q = rw e q
-body-whole settling.Coerced c t r e p q = rw e p
-body-whole settling.SlicePointer c t r e p q = rw e p
-body-whole settling.PointedTo c t r e p q = rw e p
-body-whole settling.AddressCoerced c t r e p q = rw e p
-body-whole settling.Addressed c t r e p q = rw e p
-body-whole settling.Dereferenced c t r e p q = rw e (dereferenced-whole c p)
+pub body-whole : (s : Result Settling Refusal) (c t b : List ℕ) → b ≡ body_of s c t → Whole c → Whole t → Whole b
+body-whole (Ok settling.Identical) c t r e p q = rw e p
+body-whole (Ok settling.Viewed) c t r e p q = rw e q
+body-whole (Ok settling.Coerced) c t r e p q = rw e p
+body-whole (Ok settling.SlicePointer) c t r e p q = rw e p
+body-whole (Ok settling.PointedTo) c t r e p q = rw e p
+body-whole (Ok settling.AddressCoerced) c t r e p q = rw e p
+body-whole (Ok settling.Addressed) c t r e p q = rw e p
+body-whole (Ok settling.Dereferenced) c t r e p q = rw e (dereferenced-whole c p)
+body-whole (Err r) c t b e p q = rw e p
 
 pub fours : (w : List ℕ) (ss : List Step) → w ≡ step_words ss → length w % 4 ≡ 0
 fours w ss e = rw (e, words-length) (omega arith)
@@ -108,31 +119,32 @@ module _ (cur target : List ℕ) (ss : List Step) (k n : ℕ) where
   abbrev t : List Layer
   t = layers target
 
-  gives_so : (s : Settling) (v : List ℕ) → steps v ≡ ss ++ replicate (ending_of s (pointer_depth c) n).extra (step (ending_of s (pointer_depth c) n).kind 0 0 0) →
-      with_settling ss k (of_settling (Ok s) c t n) ≡ plan_of_words v k (ending_of s (pointer_depth c) n) (body_of s cur target)
+  gives_so : (s : Result Settling Refusal) (e : Ending) (v : List ℕ) → Ok e ≡ ending_of s (pointer_depth c) n → steps v ≡ ss ++ replicate e.extra (step e.kind 0 0 0) →
+      with_settling ss k (of_settling s c t n) ≡ plan_of_words v k e (body_of s cur target)
   unfolding plan_of_words fully_dereferenced settle_by
-  gives_so settling.Identical v e = rw e refl
-  gives_so settling.Viewed v e = rw e refl
-  gives_so settling.Coerced v e = rw e refl
-  gives_so settling.SlicePointer v e = rw e refl
-  gives_so settling.PointedTo v e = rw e refl
-  gives_so settling.AddressCoerced v e = rw e refl
-  gives_so settling.Addressed v e = rw e refl
-  gives_so settling.Dereferenced v e = rw (e, layers-drop (references c) cur) refl
+  gives_so (Ok settling.Identical) e v h w = rw (w, ok_is e _ h) refl
+  gives_so (Ok settling.Viewed) e v h w = rw (w, ok_is e _ h) refl
+  gives_so (Ok settling.Coerced) e v h w = rw (w, ok_is e _ h) refl
+  gives_so (Ok settling.SlicePointer) e v h w = rw (w, ok_is e _ h) refl
+  gives_so (Ok settling.PointedTo) e v h w = rw (w, ok_is e _ h) refl
+  gives_so (Ok settling.AddressCoerced) e v h w = rw (w, ok_is e _ h) refl
+  gives_so (Ok settling.Addressed) e v h w = rw (w, ok_is e _ h) refl
+  gives_so (Ok settling.Dereferenced) e v h w = rw (w, ok_is e _ h, layers-drop (references c) cur) refl
+  gives_so (Err r) e v h w = cc
 
-  module _ (room wide m : ℕ) (em : m ≡ n) where
-    pub not-settled : (r : Refusal) → Settles (Err r) c t m → finished ss k c t n room wide ≡ refused (number_of r) 0
+  module _ (room wide m : ℕ) (em : m ≡ n) (s : Result Settling Refusal) (by-line : Settles s c t m) (p : ℕ) (deep : p ≡ pointer_depth c) where
+    pub not-settled : (r : Refusal) → Err r ≡ ending_of s p m → finished ss k c t n room wide ≡ refused (number_of r) 0
     unfolding finished delivered
-    not-settled r by-line = rw (← (rw em at by-line).1) refl
+    not-settled r h = rw (← (rw em at by-line).1, refusal_is s p m r h) refl
 
-    pub settled : (s : Settling) (p : ℕ) (e : Ending) (x : Step) (us : List Step) (v b : List ℕ) → Settles (Ok s) c t m → p ≡ pointer_depth c → e ≡ ending_of s p m →
+    pub settled : (e : Ending) (x : Step) (us : List Step) (v b : List ℕ) → Ok e ≡ ending_of s p m →
         x ≡ step e.kind 0 0 0 → us ≡ ss ++ replicate e.extra x → v ≡ step_words us → b ≡ body_of s cur target →
         finished ss k c t n room wide ≡ delivered room wide (plan_of_words v k e b)
     unfolding finished
-    settled s p e x us v b by-line deep numbers ex eu ev eb =
-        let is : e ≡ ending_of s (pointer_depth c) n = rw (deep, em) at numbers in
+    settled e x us v b numbers ex eu ev eb =
+        let is : Ok e ≡ ending_of s (pointer_depth c) n = rw (deep, em) at numbers in
         let w : steps v ≡ ss ++ replicate e.extra (step e.kind 0 0 0) = rw (ev, words_back us, eu, ex) refl in
-        ap (delivered room wide) (rw (← (rw em at by-line).1, eb, is) (gives_so s v (rw is at w)))
+        ap (delivered room wide) (rw (← (rw em at by-line).1, eb) (gives_so s e v is w))
 
 -- the plan of the rounds, by how they ended
 module _ (table : Table) (q : Question) (room wide : ℕ) where

@@ -29,8 +29,8 @@ pub(crate) fn finish(
 {
     let target = question.target;
     let level = u64::from(question.level);
-    let settling = settle(cur, target, level)?;
-    let ending = ending_of(settling, depth(cur), level);
+    let settling = settle(cur, target, level);
+    let ending = ending_of(settling, depth(cur), level)?;
     plan.repeat(Step::from([ending.kind, 0, 0, 0]), ending.extra);
     let draft = Draft {
         steps: plan.words(),
