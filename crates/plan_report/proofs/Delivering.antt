@@ -8,7 +8,7 @@ use Prim.Native.Nat.{ℕ, zero, suc, ◌+◌, ◌*◌, ◌/◌, ◌%◌, ◌≤�
 use native.Mathlib.Omega.{arith}
 use lib.Dec.{ltb}
 use lib.ListN.{length, take, replicate, length-append, length-replicate}
-use borrow.Author.Tests.{lt-ltb, le-ltb, ltb-false}
+use borrow.Author.Tests.{lt-ltb, le-ltb, ltb-true, ltb-false}
 use Rattle.std.specs.Prelude.{Result, Ok, Err}
 use Rattle.type_numbers.specs.AsCoded.{words}
 use Rattle.type_numbers.specs.Refusal.{number_of}
@@ -52,6 +52,14 @@ second_fits a b c d e = by_first (ltb a b) e
     by_first : (f : Bool) → (f || ltb c d) ≡ false → d ≤ c
     by_first true e = absurd (true≢false e)
     by_first false e = ltb-false c d e
+
+-- a run that is too short for a part is too short for all of it
+pub short_for_all : (a b c d e : ℕ) → (ltb a b || ltb c d) ≡ true → d ≤ e → (ltb a b || ltb c e) ≡ true
+short_for_all a b c d e f h = by_first (ltb a b) f
+  where
+    by_first : (g : Bool) → (g || ltb c d) ≡ true → (g || ltb c e) ≡ true
+    by_first true f = refl
+    by_first false f = lt-ltb c e (omega (arith, ltb-true c d f, h))
 
 -- the words of so many Pointers
 pointers-length : (l : ℕ) → length (spelled (replicate l pointer)) ≡ 3 * l

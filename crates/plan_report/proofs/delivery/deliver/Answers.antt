@@ -1,5 +1,7 @@
+use Prim.Native.Nat.{◌+◌, ◌*◌}
 use native.Mathlib.Omega.{arith}
-use Rattle.plan_report.proofs.Delivering.{too_wide, too_short, second_fits, front, wrote}
+use lib.ListN.{length}
+use Rattle.plan_report.proofs.Delivering.{too_wide, too_short, short_for_all, second_fits, front, wrote}
 use Rattle.plan_report.proofs.delivery.deliver.Goals as goal
 
 pub returns-then-words-gt-TYPE_WORDS : goal.returns-then-words-gt-TYPE_WORDS
@@ -10,7 +12,8 @@ returns-then-words-gt-TYPE_WORDS c =
 pub returns-then-steps-planned : goal.returns-then-steps-planned
 returns-then-steps-planned c =
     let d = c.args.draft.now in
-    too_short d.steps.now d.taken d.ending d.body.now _ _ c.requires.0 c.requires.1 c.if-words-gt-TYPE_WORDS.false c.if-steps-planned.true _ c.into-then-steps-planned.ensures
+    let short = short_for_all (length c.args.steps.now) (length d.steps.now) (length c.args.ty.now) _ (3 * d.ending.lead + length d.body.now) c.if-steps-planned.true in
+    too_short d.steps.now d.taken d.ending d.body.now _ _ c.requires.0 c.requires.1 c.if-words-gt-TYPE_WORDS.false (short (omega arith)) _ c.into-then-steps-planned.ensures
 
 pub returns : goal.returns
 returns c =
