@@ -1,7 +1,7 @@
 -- The steps, one after the other.
 -- Assumes nothing.
 use mathlib.Core.Path.{◌≡◌, refl, sym, ◌∙◌}
-use mathlib.Core.Bool.{Bool, true, false, cond, false≢true}
+use mathlib.Core.Bool.{Bool, true, false, not, cond, false≢true}
 use mathlib.Core.List.{List, []}
 use Prim.Native.Nat.{ℕ, ◌+◌, ◌*◌, ◌≤◌, ◌<◌}
 use native.Mathlib.Omega.{arith}
@@ -13,7 +13,7 @@ use Rattle.type_layers.specs.AsCoded.{Whole}
 use Rattle.type_layers.specs.Answer as paper
 use Rattle.type_layers.specs.Answer.{refused, of_result, next}
 use Rattle.type_numbers.specs.Refusal.{number_of}
-use Rattle.std.specs.Prelude.{Result, Err, Option, Some, None}
+use Rattle.std.specs.Prelude.{Result, Err, Option, Some, None, is_some}
 use Rattle.type_layers.proofs.Words.{part, part-is}
 use Rattle.type_checks.specs.Check.{check_of}
 use Rattle.type_layers.specs.declared.answers.Refused.{Refused}
@@ -32,6 +32,7 @@ use Rattle.plan_steps.proofs.Words.{steps-none, steps-more}
 use Rattle.symbol_members.specs.Member.{Stored}
 use Rattle.symbol_members.specs.Members.{of_layers, member_words, members}
 use Rattle.symbol_members.specs.AsCoded.{member_in}
+use Rattle.walker_rule.specs.Walker.{at, stuck}
 use Rattle.walker_rule.specs.AsCoded.{asked_in}
 use Rattle.walker_step.specs.AsCoded.{move_of, seen, onward, desliced, moved, Current}
 use Rattle.walker_step.specs.declared.step_move.Move.{Move}
@@ -45,6 +46,18 @@ use Rattle.walker_run.specs.Walked.{unless_stuck, walked_from, walk_from, walk_o
 pub at_most : (ws store : List ℕ) (n id : ℕ) → n ≤ 128 → member_in ws n store id ≡ member_words (read_from ws 0 n) store id
 unfolding member_in
 at_most ws store n id h = rw (le-ltb 128 n h)
+
+-- where the walker is after a move, by whether there is one
+module _ (ws m : List ℕ) where
+  no_move : (x : Option Move) → is_some x ≡ false → moved x ws m ≡ stuck
+  unfolding moved
+  no_move None e = refl
+  no_move (Some v) e = absurd (false≢true (sym e))
+
+  a_move : (x : Option Move) → is_some x ≡ true → moved x ws m ≡ at (seen (onward x ws m) (desliced x))
+  unfolding moved
+  a_move None e = absurd (false≢true e)
+  a_move (Some v) e = refl
 
 -- what the walker knows before a step: the words from there on are left
 module _ (table : Table) where
@@ -91,21 +104,20 @@ module _ (table : Table) where
       unfolding walked_from
       stepped = rw (is_move, ← acts cur m b stored a (asked_is a m e)) (rw (steps-more rest h, ← is) at r.same)
 
-      pub sticks-here : x ≡ None → refused 8 place ≡ walked_from stored 0 (steps ws) (layers known)
-      unfolding moved
-      sticks-here t = rw t at stepped
+      module _ (none : Bool) (so : is_some x ≡ not none) where
+        pub sticks-here : none ≡ true → refused 8 place ≡ walked_from stored 0 (steps ws) (layers known)
+        sticks-here t = rw (no_move cur m x (rw t at so)) at stepped
 
-      pub goes_on : (v : Move) → x ≡ Some v → (next : List ℕ) (d : Bool) (rest' : List ℕ) → next ≡ onward v cur m → d ≡ desliced v → rest' ≡ part rest 4 →
-          Reached known ws next d rest' (place + 1)
-      unfolding moved
-      goes_on v t next d rest' u w z =
-          record {
-            count = rw (z, part-is rest 4, length-drop) (omega (arith, r.count));
-            current =
-                rw (u, w)
-                (moves-on cur m b a.kind a.mark (outer (layers (drop 3 cur))) (leb 3 (length m)) v (sym t ∙ is_move) r.current.0 (asked-whole a m e));
-            same = rw (z, part-is rest 4, u, w) (rw t at stepped);
-          }
+        pub goes_on : none ≡ false → (next : List ℕ) (d : Bool) (rest' : List ℕ) → next ≡ onward x cur m → d ≡ desliced x → rest' ≡ part rest 4 →
+            Reached known ws next d rest' (place + 1)
+        goes_on t next d rest' u w z =
+            record {
+              count = rw (z, part-is rest 4, length-drop) (omega (arith, r.count));
+              current =
+                  rw (u, w)
+                  (moves-on cur m b a.kind a.mark (outer (layers (drop 3 cur))) (leb 3 (length m)) x is_move r.current.0 (asked-whole a m e));
+              same = rw (z, part-is rest 4, u, w) (rw (a_move cur m x (rw t at so)) at stepped);
+            }
 
   -- what is written in the end
   module _ (known ws : List ℕ) (address : Bool) (out : List ℕ) where

@@ -39,12 +39,14 @@ fn take_steps(
         let stored = asked_member(table, step);
         let k = kind_of(cur, desliced);
         let l = outer(inner(cur));
-        let Some(m) = move_of(step, k, l, stored.len() >= 3) else {
+        let next_move = move_of(step, k, l, stored.len() >= 3);
+        let sticks = next_move.is_none();
+        if sticks {
             let refusal = Refusal::NoStepFits;
             return Err(Refused { refusal, place });
-        };
-        cur = go(m, cur, stored);
-        desliced = is_desliced(m);
+        }
+        cur = go(next_move, cur, stored);
+        desliced = is_desliced(next_move);
         rest = left;
         place += 1;
     }
