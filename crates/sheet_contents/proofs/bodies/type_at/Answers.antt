@@ -3,6 +3,12 @@ use Rattle.sheet_contents.proofs.Places.{no-type, none-there, counted, counted-t
 use Rattle.sheet_contents.proofs.bodies.type_at.Goals as goal
 use Rattle.sheet_contents.proofs.bodies.type_at.Goals.{in_default-via-in-Some+else-k-n, in_default-via-in_default}
 
+pub returns-in_default : goal.returns-in_default
+returns-in_default c = elim c.in_default.branch [
+  | in_default-via-in-Some+else-k-n w ↦ no-type _ _ _ w.in-Some.ensures.is w.if-k-n.false
+  | in_default-via-in_default w ↦ none-there _ _ w.in_default.ensures.is
+]
+
 pub slice_bounds-total-end : goal.slice_bounds-total-end
 slice_bounds-total-end c = counted-to _ _ _ c.in-Some.ensures.is c.if-k-n.true
 
@@ -23,9 +29,3 @@ slice_bounds-result-end c = in-the-sheet _ _ _ c.in-Some.ensures.is c.if-k-n.tru
 
 pub returns-in-Some : goal.returns-in-Some
 returns-in-Some c = type-is _ _ _ c.in-Some.ensures.is c.if-k-n.true _ _ c.total.ensures.is c.unwrap-before.ensures
-
-pub returns-in_default : goal.returns-in_default
-returns-in_default c = elim c.in_default.branch [
-  | in_default-via-in-Some+else-k-n w ↦ no-type _ _ _ w.in-Some.ensures.is w.if-k-n.false
-  | in_default-via-in_default w ↦ none-there _ _ w.in_default.ensures.is
-]
