@@ -67,8 +67,9 @@ module _ (words : List ℕ) (n i : ℕ) (a : Text) (pre : (a.at + 576 ≤ length
       more : j < length (types words)
       more = omega (arith, pre.3)
 
-      pub row_room : b.at + 18 ≤ length b.out.now
-      row_room = going-room (line_of words i) 18 lines-short (types words) a fits j b p more
+      pub row_room : (b.at + 18 ≤ length b.out.now) × (i + 1 < 100) × (j + 1 < 100)
+      row_room =
+          (going-room (line_of words i) 18 lines-short (types words) a fits j b p more, omega (arith, pre.2), omega (arith, pre.1))
 
       pub row_on : (x y : List ℕ) → x ≡ type_at i words → y ≡ type_at j words → (c : Text) → Puts (line (i + 1) (j + 1) x y) b c → Rowed (j + 1) c
       row_on x y e f c q = going_on (line_of words i) 18 lines-short (types words) a fits j b p more c (rw (e, f) at q)

@@ -2,7 +2,7 @@
 -- Assumes nothing.
 use mathlib.Core.Path.{◌≡◌, refl, sym, ◌∙◌}
 use mathlib.Core.List.{List, ◌++◌}
-use Prim.Native.Nat.{ℕ, ◌/◌, ◌≤◌}
+use Prim.Native.Nat.{ℕ, ◌/◌, ◌≤◌, ◌<◌}
 use native.Mathlib.Nat.{zero-add}
 use native.Mathlib.Omega.{arith}
 use lib.ListN.{length, length-append, take, replicate}
@@ -13,7 +13,7 @@ use Rattle.type_layers.specs.Answer.{Answer, given, nothing, refused}
 use Rattle.sheet_words.specs.Little.{whole_words}
 use Rattle.sheet_contents.specs.Contents.{types}
 use Rattle.sheet_read.specs.Sheet.{read_sheet}
-use Rattle.sheet_read.proofs.Read.{Read, was_read}
+use Rattle.sheet_read.proofs.Read.{Read, was_read, small-number}
 use Rattle.sheet_words.proofs.Decoding.{words_back}
 use Rattle.sheet_text.specs.AsCoded.{put_at, Puts}
 use Rattle.sheet_text.specs.declared.text.Text.{Text}
@@ -47,6 +47,10 @@ told bs a b z h p =
     ((n, within, sym (length-take-le b.at b.out.now within)), w)
 
 module _ (bs : List ℕ) where
+  -- a refusal is printed with its digits
+  pub number_fits : (m p : ℕ) → refused m p ≡ read_sheet bs → m < 100
+  number_fits m p e = small-number bs m p e
+
   pub refused-text : (m p : ℕ) → refused m p ≡ read_sheet bs → (a b : Text) → Puts (refusal m) a b → Puts (text bs) a b
   unfolding text
   refused-text m p e a b q = rw (← e) q

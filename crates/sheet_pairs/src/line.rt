@@ -1,4 +1,4 @@
-ghost use Rattle.std.specs.Prelude.{◌≡◌, ◌+◌, ◌≤◌, length};
+ghost use Rattle.std.specs.Prelude.{◌≡◌, ◌+◌, ◌≤◌, ◌<◌, length};
 ghost use Rattle.sheet_text.specs.AsCoded.{Puts};
 ghost use Rattle.sheet_pairs.specs.Text as text;
 
@@ -37,7 +37,7 @@ fn answers(a: &[u64], b: &[u64]) -> [u8; 13]
 
 // Puts the line of two types and their positions.
 pub(crate) fn put_line(to: &mut Text<'_>, i: usize, j: usize, a: &[u64], b: &[u64])
-    requires { to.old.at + 18 ≤ length to.old.out.now }
+    requires { (to.old.at + 18 ≤ length to.old.out.now) × (i < 100) × (j < 100) }
     ensures { Puts (text.line i j a.now b.now) to.old to.new }
 {
     to.put_number(i);

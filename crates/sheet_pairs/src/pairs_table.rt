@@ -37,7 +37,7 @@ fn put_rows(to: &mut Text<'_>, words: &[u64], n: usize)
 
 // Puts the line of a refusal.
 fn put_refusal(to: &mut Text<'_>, e: Refused)
-    requires { to.old.at + 12 ≤ length to.old.out.now }
+    requires { (to.old.at + 12 ≤ length to.old.out.now) × (number_of e.refusal < 100) }
     ensures { Puts (text.refusal (number_of e.refusal)) to.old to.new }
 {
     to.put(b"refused ");

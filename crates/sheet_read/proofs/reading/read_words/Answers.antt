@@ -11,15 +11,15 @@ returns-in_err-n c =
 pub loop-k-init : goal.loop-k-init
 loop-k-init c = check-begin _ _ (some-count _ _ _ c.in_ok-n.ensures.value _ c.types_in.ensures.is)
 
+pub loop-k-preserved : goal.loop-k-preserved
+loop-k-preserved c =
+    check-more _ _ (some-count _ _ _ c.in_ok-n.ensures.value _ c.types_in.ensures.is) _ c.loop-k.invariant c.loop-k-test.true _ c.type_at.ensures _ c.in_ok-check_type.ensures
+
 pub returns-in_err-check_type : goal.returns-in_err-check_type
 returns-in_err-check_type c =
     let p = err_from_is_err_and c.from_residual-in_err-check_type.result c.from_residual-in_err-check_type.ensures.1 in
     rw (p.1, p.2)
     (refused-here _ _ (some-count _ _ _ c.in_ok-n.ensures.value _ c.types_in.ensures.is) _ c.loop-k.invariant c.loop-k-test.true _ c.type_at.ensures _ _ c.in_err-check_type.ensures)
-
-pub loop-k-preserved : goal.loop-k-preserved
-loop-k-preserved c =
-    check-more _ _ (some-count _ _ _ c.in_ok-n.ensures.value _ c.types_in.ensures.is) _ c.loop-k.invariant c.loop-k-test.true _ c.type_at.ensures _ c.in_ok-check_type.ensures
 
 pub returns : goal.returns
 returns c = check-end _ _ (some-count _ _ _ c.in_ok-n.ensures.value _ c.types_in.ensures.is) _ c.loop-k.invariant c.loop-k-test.false
