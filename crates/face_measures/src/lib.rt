@@ -3,4 +3,4 @@
 
 mod measures;
 
-pub use measures::{bound, size, start};
+pub use measures::{bound, count, size, start};

@@ -9,23 +9,23 @@ use write_answer::Answer;
 pub fn tj_get_element_type(t: &[u64]) -> Answer
     ensures { result ≡ flat (start_answer Part.Element t.now) }
 {
-    start(type_part_starts::start_of(Part::Element, t))
+    start(type_part_starts::start_of(Part::Element, t).map_err(Answer::from))
 }
 
 pub fn tj_get_pointee_type(t: &[u64]) -> Answer
     ensures { result ≡ flat (start_answer Part.Pointee t.now) }
 {
-    start(type_part_starts::start_of(Part::Pointee, t))
+    start(type_part_starts::start_of(Part::Pointee, t).map_err(Answer::from))
 }
 
 pub fn tj_get_viewee_type(t: &[u64]) -> Answer
     ensures { result ≡ flat (start_answer Part.Viewee t.now) }
 {
-    start(type_part_starts::start_of(Part::Viewee, t))
+    start(type_part_starts::start_of(Part::Viewee, t).map_err(Answer::from))
 }
 
 pub fn tj_fully_dereferenced(t: &[u64]) -> Answer
     ensures { result ≡ flat (start_answer Part.Dereferenced t.now) }
 {
-    start(type_part_starts::start_of(Part::Dereferenced, t))
+    start(type_part_starts::start_of(Part::Dereferenced, t).map_err(Answer::from))
 }
