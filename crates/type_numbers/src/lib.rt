@@ -1,4 +1,4 @@
-// The numbers of the rules, by name: kinds, steps, marks, contexts, states, effects, refusals, limits. In the Rust: `enum ValueType`, `enum FixContext`.
+// The numbers of the rules, by name: kinds, steps, marks, contexts, coercions, states, effects, refusals, limits. In the Rust: `enum ValueType`, `enum FixContext`.
 #![tactic(auto)]
 
 mod context;
