@@ -1,3 +1,4 @@
+use native.Mathlib.Omega.{arith}
 use Rattle.std.proofs.lemmas.Result.{err_from_is_err_and}
 use Rattle.extern_fixing.specs.Answers.{fixed_answer, fixed_buffer}
 use Rattle.write_type.proofs.Outcomes.{carried, stays}
@@ -17,11 +18,11 @@ returns-in_err-check_type-clause-buffer c = (stays _ _ _ c.args.out.now (uncheck
 
 pub returns-in_err-try_from-clause-answer : goal.returns-in_err-try_from-clause-answer
 unfolding fixed_answer fixed_buffer
-returns-in_err-try_from-clause-answer c = let p = err_from_is_err_and c.from_residual-in_err-try_from.result c.from_residual-in_err-try_from.ensures.1 in rw (p.1, p.2, c.in_err-try_from.ensures.0) (stays _ _ _ c.args.out.now (no-context _ _ _ _ _ c.in_ok-check_type.ensures c.in_err-try_from.ensures.1)).0
+returns-in_err-try_from-clause-answer c = let p = err_from_is_err_and c.from_residual-in_err-try_from.result c.from_residual-in_err-try_from.ensures.1 in rw (p.1, p.2, c.in_err-try_from.ensures.0) (stays _ _ _ c.args.out.now (no-context _ _ c.args.context _ _ c.in_ok-check_type.ensures (omega (arith, c.in_err-try_from.ensures.1)))).0
 
 pub returns-in_err-try_from-clause-buffer : goal.returns-in_err-try_from-clause-buffer
 unfolding fixed_answer fixed_buffer
-returns-in_err-try_from-clause-buffer c = (stays _ _ _ c.args.out.now (no-context _ _ _ _ _ c.in_ok-check_type.ensures c.in_err-try_from.ensures.1)).1
+returns-in_err-try_from-clause-buffer c = (stays _ _ _ c.args.out.now (no-context _ _ c.args.context _ _ c.in_ok-check_type.ensures (omega (arith, c.in_err-try_from.ensures.1)))).1
 
 pub returns-then-external-clause-answer : goal.returns-then-external-clause-answer
 unfolding fixed_answer fixed_buffer
