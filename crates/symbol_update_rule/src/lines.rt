@@ -1,7 +1,5 @@
-ghost use Rattle.std.specs.Prelude.{◌≡◌, ◌||◌};
+ghost use Rattle.std.specs.Prelude.{◌≡◌};
 ghost use Rattle.type_layers.specs.Layers.{layers};
-ghost use Rattle.relation_declared.specs.Declared.{concretization};
-ghost use Rattle.relation_coerces.specs.Coerces.{coerces};
 ghost use Rattle.symbol_update_rule.specs.Rule.{line_of};
 ghost use Rattle.symbol_update_rule.specs.AsCoded.{of_line};
 
@@ -21,16 +19,8 @@ pub enum Line {
     Conflicting,
 }
 
-#[tactic(auto, using(crate::proofs::Choices::read_as_value))]
-fn fits_into(offered: &[u64], stored: &[u64]) -> bool
-    ensures { result ≡ (concretization (layers offered.now) (layers stored.now)
-        || coerces (layers offered.now) (layers stored.now)) }
-{
-    can_be_concretization_of(offered, stored) || coerces(offered, stored).is_as_value()
-}
-
 // The first line that applies. authoritative: the symbol is; newly: the new identifier is.
-#[tactic(auto, unfolding(crate::specs::Rule::line_of))]
+#[tactic(auto, using(crate::proofs::Choices::read_as_value), unfolding(crate::specs::Rule::line_of))]
 pub fn decide(
     poisoned: bool,
     authoritative: bool,
@@ -48,7 +38,9 @@ pub fn decide(
         Line::Kept
     } else if authoritative && can_be_declared_as(offered, stored) {
         Line::TypeReplaced
-    } else if newly && fits_into(offered, stored) {
+    } else if newly
+        && (can_be_concretization_of(offered, stored) || coerces(offered, stored).is_as_value())
+    {
         Line::BothReplaced
     } else {
         Line::Conflicting
