@@ -1,6 +1,6 @@
 -- The layers in front of the type that is reached.
 -- Assumes nothing.
-use mathlib.Core.Path.{◌≡◌, refl}
+use mathlib.Core.Path.{◌≡◌, refl, sym}
 use mathlib.Core.Bool.{Bool, true, false, cond}
 use mathlib.Core.List.{List, [], ◌∷◌, ◌++◌}
 use Prim.Native.Nat.{ℕ, ◌-◌}
@@ -27,21 +27,21 @@ reached address b front i j w p q ws rest e = rw (w, p, q, e) (by_flags address 
     by_flags false true = rw (inner-layers ws)
     by_flags false false = refl
 
+-- the four arms of the code
 module _ (ws : List ℕ) where
   pub as_it_is : addressed false (seen ws false) ≡ layers [] ++ layers ws
-  unfolding layers seen
-  as_it_is = refl
+  as_it_is = sym (reached false false both 3 3 refl refl refl ws ws refl)
 
   pub its_address : addressed true (seen ws false) ≡ layers (words kind.pointer 0 0) ++ layers ws
-  unfolding layers seen
-  its_address = refl
+  unfolding spelled
+  its_address = sym (reached true false both 0 3 refl refl refl ws ws refl)
 
   pub desliced : addressed false (seen ws true) ≡ layers (words kind.arraylike 0 0) ++ layers (inner_words ws)
-  unfolding layers seen
-  desliced = rw (inner-layers ws)
+  unfolding spelled
+  desliced = sym (reached false true both 3 6 refl refl refl ws (inner_words ws) refl)
 
   pub address_desliced : addressed true (seen ws true) ≡ layers (spelled (layer kind.pointer 0 0 ∷ layer kind.arraylike 0 0 ∷ [])) ++ layers (inner_words ws)
-  unfolding layers spelled seen
-  address_desliced = rw (inner-layers ws)
+  unfolding spelled
+  address_desliced = sym (reached true true both 0 6 refl refl refl ws (inner_words ws) refl)
 
 pub ruleset fronts = (as_it_is, its_address, desliced, address_desliced)
