@@ -50,7 +50,7 @@ fn keep(table: &Table) -> Result<Change, Refused>
 }
 
 // An act in a table that is given by its columns. The slot's part of the store is lent on, and written there.
-#[tactic(auto, using(crate::proofs::Decided::found_below, crate::proofs::Decided::found_part, crate::proofs::Decided::new_below, crate::proofs::Decided::new_part), unfolding(crate::specs::AsCoded::change_of, crate::specs::AsCoded::store_of, crate::specs::Change::outcome))]
+#[tactic(auto, using(crate::proofs::Decided::found_below, crate::proofs::Decided::found_part, crate::proofs::Decided::new_below, crate::proofs::Decided::new_part))]
 fn act_in(
     act: Act,
     columns: &Columns,

@@ -25,7 +25,7 @@ use Rattle.type_layers.specs.Answer.{IsUnplaced}
 use Rattle.symbol_get.specs.Get.{mark_for, got, type_in, type_of}
 use Rattle.symbol_get.specs.Got as got'
 use Rattle.symbol_get.specs.Got.{Got}
-use Rattle.std.specs.Prelude.{Result, Ok}
+use Rattle.std.specs.Prelude.{Result, Ok, Err}
 use Rattle.symbol_get.specs.AsCoded.{of_got}
 use Rattle.symbol_get.specs.declared.get.Found as coded
 use Rattle.symbol_get.specs.declared.get.Found.TheVariants as code
@@ -105,6 +105,15 @@ pub type-poisoned : (flat : List ℕ) (n id : ℕ) (store : List ℕ) (g : Resul
     (m : ℕ) → g ≡ Ok (code.Poisoned m) → take 0 store ≡ type_of id (read_from flat 0 n) store
 unfolding type_of
 type-poisoned flat n id store g e m q = rw (← e, q)
+
+-- nor has what is no type
+pub no_type : (flat : List ℕ) (n id : ℕ) (store : List ℕ) (g : Result coded.Found Refused) → of_got g ≡ got id true (read_from flat 0 n) store →
+    ((k : ℕ) → g ≡ Ok (code.Typed k) → ⊥) → take 0 store ≡ type_of id (read_from flat 0 n) store
+unfolding type_of
+no_type flat n id store (Ok code.Absent) e f = rw (← e)
+no_type flat n id store (Ok (code.Typed k)) e f = absurd (f k refl)
+no_type flat n id store (Ok (code.Poisoned m)) e f = type-poisoned flat n id store (Ok (code.Poisoned m)) e m refl
+no_type flat n id store (Err x) e f = rw (← e)
 
 pub type_there : (flat : List ℕ) (n id : ℕ) (store : List ℕ) (k : ℕ) (s : Symbol) (slot r : List ℕ) →
     got'.typed k ≡ got id true (read_from flat 0 n) store → s ≡ row_under flat k id → slot ≡ slot_words store k → r ≡ stored_words s.layers slot →

@@ -64,7 +64,6 @@ pub fn get_among(table: &Table, id: u32, authority: bool, found: &mut u64) -> An
 }
 
 // The type that it has under a name, as the part of the store that holds it.
-#[tactic(auto, unfolding(crate::specs::Get::type_of))]
 pub fn type_among<'s>(table: &Table<'_, 's>, id: u32) -> &'s [u64]
     ensures { result.now ≡ rules.type_of id (records table.now) table.now.store.now }
 {

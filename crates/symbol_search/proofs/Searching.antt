@@ -1,14 +1,16 @@
 -- The searches through the columns, one row after the other.
 -- Assumes nothing.
-use mathlib.Core.Path.{◌≡◌, refl, ap, ◌∙◌}
+use mathlib.Core.Path.{◌≡◌, refl, sym, ap, ◌∙◌}
 use mathlib.Core.Bool.{Bool, true, false, cond, not, ◌&&◌}
 use mathlib.Core.List.{List, [], ◌∷◌}
 use Prim.Native.Nat.{ℕ, zero, suc, ◌+◌, ◌-◌, ◌≤◌, ◌<◌}
+use native.Mathlib.Nat.{zero-add}
+use native.Mathlib.Numerals.{add-one}
 use native.Mathlib.Omega.{arith}
 use lib.ListN.{length, take, drop, get_or, length-take, length-drop}
 use lib.Seq.{drop-cons}
 use lib.Dec.{eqb, ltb}
-use borrow.Author.Tests.{ltb-true, ltb-false, lt-ltb, le-ltb, eqb-true, eq-eqb}
+use borrow.Author.Tests.{ltb-true, ltb-false, lt-ltb, le-ltb, eqb-true, eqb-false, eq-eqb, ne_eqb}
 use Rattle.symbol_columns.specs.Record.{vacant, free}
 use Rattle.symbol_columns.specs.AsCoded.{row_at, read_from}
 use Rattle.symbol_columns.specs.declared.symbol.Symbol.{Symbol}
@@ -17,7 +19,7 @@ use Rattle.std.proofs.lemmas.Slice.Zip.{length-zip}
 use Rattle.std.specs.List.{zip, position_or_len}
 use Rattle.symbol_search.specs.Search.{first_free, slot_for, among}
 use Rattle.symbol_search.specs.AsCoded.{free_in, slot_in}
-use Rattle.symbol_columns.proofs.Reading.{from, read_more}
+use Rattle.symbol_columns.proofs.Reading.{from, read_more, read-end, read_all}
 
 -- more than 128 rows: none is found
 module _ (ws : List ℕ) (n : ℕ) (h : 128 < n) where
@@ -41,19 +43,50 @@ free-found ws n i few p h z =
     let is : i ≡ first_free (read_from ws 0 n) = omega (arith, e, p) in
     is ∙ rw (le-ltb 128 n few)
 
+-- it has passed none at the start, goes on past one that is taken, and past the last has found none
+pub free-start : (ws : List ℕ) (n : ℕ) → FreePassed ws n 0
+free-start ws n = omega (arith, ap first_free (read_all ws n))
+
+pub free_on : (ws : List ℕ) (n i : ℕ) → n ≤ 128 → FreePassed ws n i → i < n → (get_or ws (i + 384) 0 ≡ 0 → ⊥) → FreePassed ws n (i + 1)
+unfolding first_free row_at
+free_on ws n i few p h z =
+    let e : first_free (from ws n i) ≡ suc (first_free (from ws n (i + 1))) = rw (read_more ws n i h, ne_eqb (get_or ws (i + 384) 0) 0 z) in
+    omega (arith, e, p)
+
+pub free-over : (ws : List ℕ) (n i : ℕ) → n ≤ 128 → FreePassed ws n i → n ≤ i → i ≡ free_in ws n
+unfolding first_free free_in
+free-over ws n i few p h =
+    let e : first_free (from ws n i) ≡ 0 = rw (read-end ws n i h) in
+    let is : i ≡ first_free (read_from ws 0 n) = omega (arith, e, p) in
+    is ∙ rw (le-ltb 128 n few)
+
+-- so a search through the words of their states finds it
+free_along : (ws : List ℕ) (n : ℕ) → n ≤ 128 → n + 384 ≤ length ws → (k i j : ℕ) → i + k ≡ n → j ≡ i + 384 → FreePassed ws n i →
+    i + position_or_len (λ s. eqb s 0) (take k (drop j ws)) ≡ free_in ws n
+free_along ws n few full zero i j e q p =
+    let is : i ≡ free_in ws n = free-over ws n i few p (omega (arith, e)) in
+    omega (arith, is)
+free_along ws n few full (suc k) i j e q p =
+    let here : j < length ws = omega (arith, e, q) in
+    let more : i < n = omega (arith, e) in
+    rw (drop-cons ws j 0 here, ← add-one j)
+    (by_state (eqb (get_or ws j 0) 0) refl
+    (λ z. free_along ws n few full k (i + 1) (j + 1) (omega (arith, e)) (omega (arith, q)) (free_on ws n i few p more (λ x. z (ap (λ (m : ℕ). get_or ws m 0) q ∙ x)))))
+  where
+    rest : ℕ
+    rest = position_or_len (λ s. eqb s 0) (take k (drop (j + 1) ws))
+
+    by_state : (b : Bool) → eqb (get_or ws j 0) 0 ≡ b → ((get_or ws j 0 ≡ 0 → ⊥) → i + 1 + rest ≡ free_in ws n) →
+        i + cond (not b) (1 + rest) 0 ≡ free_in ws n
+    by_state true z on =
+        let is : i ≡ free_in ws n = free-found ws n i few p (omega (arith, e)) (ap (λ (m : ℕ). get_or ws m 0) (sym q) ∙ eqb-true (get_or ws j 0) 0 z) in
+        omega (arith, is)
+    by_state false z on = omega (arith, on (eqb-false (get_or ws j 0) 0 z))
+
 -- a search through records is one through the words of their columns
 stops : (b : Bool) (m : ℕ) → cond b 0 (suc m) ≡ cond (not b) (1 + m) 0
 stops true m = refl
 stops false m = omega arith
-
-free_by_words : (ws : List ℕ) (i j k : ℕ) → j ≡ i + 384 → j + k ≤ length ws → first_free (read_from ws i k) ≡ position_or_len (λ s. eqb s 0) (take k (drop j ws))
-unfolding first_free read_from row_at
-free_by_words ws i j zero e h = refl
-free_by_words ws i j (suc k) e h =
-    let here : j < length ws = omega arith in
-    rw (drop-cons ws j 0 here, ← e)
-    (ap (λ (m : ℕ). cond (eqb (get_or ws j 0) 0) 0 (suc m)) (free_by_words ws (suc i) (suc j) k (omega arith) (omega arith))
-    ∙ stops (eqb (get_or ws j 0) 0) (position_or_len (λ s. eqb s 0) (take k (drop (suc j) ws))))
 
 -- whether an id and a state are those of a taken record that has the id
 abbrev pub wanted : ℕ → ℕ × ℕ → Bool
@@ -83,10 +116,11 @@ module _ (ws : List ℕ) (n : ℕ) (few : n ≤ 128) (full : length ws ≡ 768) 
   states-are = ap (λ (m : ℕ). take m (drop 384 ws)) (omega arith)
 
   pub free_found : (r : Option ℕ) → r ≡ found_in (λ s. eqb s 0) states → r ≡ among n (free_in ws n)
-  unfolding free_in
   free_found r e =
       let m : length (take n (drop 384 ws)) ≡ n = simp (length-take, length-drop) (omega arith) in
-      rw (le-ltb 128 n few, free_by_words ws 0 384 n refl (omega arith)) (rw (states-are, m) at e)
+      let is : position_or_len (λ s. eqb s 0) (take n (drop 384 ws)) ≡ free_in ws n =
+      omega (arith, free_along ws n few (omega (arith, full)) n 0 384 (zero-add n) refl (free-start ws n)) in
+      rw (← is) (rw (states-are, m) at e)
 
   pub slot_found : (id : ℕ) (r : Option ℕ) → r ≡ found_in (wanted id) (zip (take n ws) states) → r ≡ among n (slot_in ws n id)
   unfolding slot_in

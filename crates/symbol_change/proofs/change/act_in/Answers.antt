@@ -3,8 +3,8 @@ use Rattle.std.proofs.Common.{arith}
 use Rattle.std.proofs.lemmas.Grind.{common_steps}
 use Rattle.type_numbers.specs.Refusal.{number_of}
 use Rattle.write_answer.specs.Flat.{not_accepted}
-use Rattle.symbol_change.specs.AsCoded.{of_change, nowhere}
-use Rattle.symbol_change.proofs.Decided.{found_part, chose-found, kept-found, new_part, chose-new, kept-new, refused-stays}
+use Rattle.symbol_change.specs.AsCoded.{of_change, nowhere, change_of}
+use Rattle.symbol_change.proofs.Decided.{kept-refused, found_part, chose-found, kept-found, new_part, chose-new, kept-new, refused-stays}
 use Rattle.symbol_change.proofs.change.act_in.Goals as goal
 
 pub slice_bounds-slot-end : goal.slice_bounds-slot-end
@@ -12,6 +12,13 @@ slice_bounds-slot-end c = found_part _ _ _ _ _ _ _ c.in_ok-at.ensures _ c.in-Fou
 
 pub slice_bounds-slot-end-in-Free : goal.slice_bounds-slot-end-in-Free
 slice_bounds-slot-end-in-Free c = new_part _ _ _ _ _ _ _ c.in_ok-at.ensures _ c.in-Free.is
+
+pub returns-in_err-at : goal.returns-in_err-at
+unfolding change_of
+returns-in_err-at c =
+    let x = c.in_err-at.field-0.0 in
+    let i : of_change c.from_residual.result ≡ nowhere (not_accepted (number_of x.refusal) x.place) = grind (arith, common_steps) in
+    (i ∙ rw (← c.in_err-at.ensures), kept-refused _ _ _ _ _ _ _ _ c.way_of.result c.way_of.ensures x c.in_err-at.was)
 
 pub returns-in_err-effect-in-Found : goal.returns-in_err-effect-in-Found
 returns-in_err-effect-in-Found c =
