@@ -29,6 +29,20 @@ goes k = is_reference k || eqb k kind.arraylike
 abbrev pub turned : Layer → Layer
 turned x = cond (eqb x.kind kind.arraylike) (layer kind.endless_array 0 0) x
 
+-- none of them is kept
+pub goes-apart : (k : ℕ) (g : Bool) → g ≡ goes k → g ≡ true → kept k ≡ false
+goes-apart k g e f = by_kind (is_reference k) (eqb k kind.arraylike) refl refl (sym e ∙ f)
+  where
+    by_kind : (r l : Bool) → is_reference k ≡ r → eqb k kind.arraylike ≡ l → (r || l) ≡ true → kept k ≡ false
+    by_kind r true h l x = rw (eqb-true k kind.arraylike l)
+    by_kind true false h l x = by_reference (eqb k kind.pointer) (eqb k kind.view) refl refl h
+      where
+        by_reference : (a b : Bool) → eqb k kind.pointer ≡ a → eqb k kind.view ≡ b → (a || b) ≡ true → kept k ≡ false
+        by_reference true b u v y = rw (eqb-true k kind.pointer u)
+        by_reference false true u v y = rw (eqb-true k kind.view v)
+        by_reference false false u v y = absurd (false≢true y)
+    by_kind false false h l x = absurd (false≢true x)
+
 -- the three ways
 module _ (p : ℕ) (x : Layer) (a : List Layer) where
   pub keeps : kept x.kind ≡ true → externalized p (x ∷ a) ≡ given (x ∷ a)

@@ -57,13 +57,13 @@ fn externalize_type(t: &[u64], place: u64, made: &mut [u64]) -> Result<u64, Refu
     ensures buffer { made.new ≡ over (fixing.externalized place (layers t.now)) made.old }
 {
     match t {
-        [k, _, _, ..] if is_kept(*k) => {
-            write_words(made, t);
-            Ok(t.len() as u64)
-        }
         [k, name, number, inside @ ..] if goes_inside(*k) => {
             externalize_type(inside, place + 1, &mut made[3..])?;
             write_words(made, &external_layer(*k, *name, *number));
+            Ok(t.len() as u64)
+        }
+        [k, _, _, ..] if is_kept(*k) => {
+            write_words(made, t);
             Ok(t.len() as u64)
         }
         _ => Err(Refused {
