@@ -31,7 +31,7 @@ module _ (k n m : ℕ) where
   unfolding good_layer
   of_named e = rw e
 
-  of_holder : (f : Bool) → f ≡ holds_inner k → (k ≡ 14 → ⊥) → (k ≡ 15 → ⊥) →
+  pub of_holder : (f : Bool) → f ≡ holds_inner k → (k ≡ 14 → ⊥) → (k ≡ 15 → ⊥) →
       (eqb n 0 && eqb m 0 && f) ≡ (holds_inner k && good_layer (layer k n m))
   unfolding good_layer
   of_holder f e a b = rw e (by-holding (holds_inner k) refl)
@@ -138,7 +138,7 @@ module _ (k n m : ℕ) where
       by-tests false false false true e = refl
       by-tests false m1 false false e = refl
 
-  of_plain : (k ≡ 20 → ⊥) → (k ≡ 21 → ⊥) → (k ≡ 22 → ⊥) →
+  pub of_plain : (k ≡ 20 → ⊥) → (k ≡ 21 → ⊥) → (k ≡ 22 → ⊥) →
       (ltb k 14 && eqb n 0 && eqb m 0) ≡ (not (holds_inner k) && good_layer (layer k n m))
   unfolding good_layer
   of_plain a b c = by_count (ltb k 14) refl
